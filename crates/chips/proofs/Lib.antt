@@ -1,0 +1,10 @@
+pub mod Cards
+pub mod Counting
+pub mod FaultLaws
+pub mod FreshLaws
+pub mod HeaderLaws
+pub mod ImageFaults
+pub mod ImageLaws
+pub mod ImageWrites
+pub mod PlainLaws
+pub mod Rows
