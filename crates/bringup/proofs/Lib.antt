@@ -1,0 +1,3 @@
+pub mod CheckLaws
+pub mod FlashLaws
+pub mod ProbeLaws

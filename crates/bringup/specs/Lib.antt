@@ -1,0 +1,4 @@
+pub mod Checked
+pub mod Pattern
+pub mod Probed
+pub mod Ready
