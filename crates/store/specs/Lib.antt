@@ -1,0 +1,9 @@
+pub mod Appends
+pub mod Calls
+pub mod Changes
+pub mod Moves
+pub mod Numbers
+pub mod Places
+pub mod Rounds
+pub mod State
+pub mod View
