@@ -1,6 +1,8 @@
 // Brings up a plain chip three times in a row, and then a stack of layers over a plain and an image chip, and prints
 // what it found.
 // The plain chip may be erased once, so the passes find its blocks blank, then used, then worn.
+#![tactic(auto)]
+
 mod stack;
 
 use bringup::check::check_flash;

@@ -1,4 +1,6 @@
 // Examples of what the chips and layers do, run as tests.
+#![tactic(auto)]
+
 #[cfg(test)]
 mod image;
 #[cfg(test)]

@@ -1,4 +1,6 @@
 // The store: a mapping layer over a flash, with a page-mapped region before the data blocks.
+#![tactic(auto)]
+
 mod append;
 mod area;
 mod blocks;

@@ -1,4 +1,6 @@
 // Examples of what the store and its rules do, run as tests.
+#![tactic(auto)]
+
 #[cfg(test)]
 mod card;
 #[cfg(test)]

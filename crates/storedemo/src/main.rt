@@ -1,5 +1,7 @@
 // Puts a few groups of pages into a store over a small plain chip until garbage collection has to make room, reads some
 // of them back, and prints a line for each step.
+#![tactic(auto)]
+
 use chips::plain::PlainChip;
 use flash::device::Flash;
 use flash::geometry::Geometry;

@@ -1,4 +1,6 @@
 // Work lists: the bytes by which a mill's controller talks to a card, and the answers that it gets.
+#![tactic(auto)]
+
 pub mod answer;
 mod carry;
 pub mod ended;
