@@ -25,8 +25,8 @@ fn check_page<F: Flash>(
     written: &mut [u8],
     found: &mut [u8],
 ) -> Result<bool, Refusal>
-    requires { (Buffered (card flash.old) block.0 (length written.old) (length found.old)) × ((page < (card flash.old).shape.pages) × (floor_at (card flash.old) block.0 ≤ page)) }
-    ensures { MatchResult result (λ same. (same ≡ true) × (card flash.new ≡ programmed (card flash.old) block.0 page (pattern block.0 page (card flash.old).shape.size))) (λ _. ⊥) }
+    requires { (Buffered (F.card flash.old) block.0 (length written.old) (length found.old)) × ((page < (F.card flash.old).shape.pages) × (floor_at (F.card flash.old) block.0 ≤ page)) }
+    ensures { MatchResult result (λ same. (same ≡ true) × (F.card flash.new ≡ programmed (F.card flash.old) block.0 page (pattern block.0 page (F.card flash.old).shape.size))) (λ _. ⊥) }
 {
     fill_pattern(block, page, written);
     flash.program(block, page, written)?;
@@ -41,8 +41,8 @@ fn write_pattern<F: Flash>(
     written: &mut [u8],
     found: &mut [u8],
 ) -> Result<usize, Refusal>
-    requires { (Buffered (card flash.old) block.0 (length written.old) (length found.old)) × (floor_at (card flash.old) block.0 ≡ 0) }
-    ensures { MatchResult result (λ wrong. (wrong ≡ 0) × (card flash.new ≡ patterned (card flash.old) block.0 (card flash.old).shape.pages)) (λ _. ⊥) }
+    requires { (Buffered (F.card flash.old) block.0 (length written.old) (length found.old)) × (floor_at (F.card flash.old) block.0 ≡ 0) }
+    ensures { MatchResult result (λ wrong. (wrong ≡ 0) × (F.card flash.new ≡ patterned (F.card flash.old) block.0 (F.card flash.old).shape.pages)) (λ _. ⊥) }
 {
     let mut mismatched = 0;
     for page in 0..flash.geometry().pages {
@@ -55,7 +55,7 @@ fn write_pattern<F: Flash>(
 
 // What is to be done with a block.
 fn outcome<F: Flash>(flash: &F, block: PhysicalBlock) -> BlockOutcome
-    ensures { result ≡ outcome_of (card flash.now) block.0 }
+    ensures { result ≡ outcome_of (F.card flash.now) block.0 }
 {
     if flash.floor(block) == 0 {
         return BlockOutcome::Programmed;
@@ -68,8 +68,8 @@ fn outcome<F: Flash>(flash: &F, block: PhysicalBlock) -> BlockOutcome
 
 // Programs the pattern into a blank block by way of two pages of memory.
 fn pattern_block<F: Flash>(flash: &mut F, block: PhysicalBlock) -> Result<usize, Refusal>
-    requires { (Sound (card flash.old)) × ((block.0 < block_count (card flash.old)) × (floor_at (card flash.old) block.0 ≡ 0)) }
-    ensures { MatchResult result (λ wrong. (wrong ≡ 0) × (card flash.new ≡ patterned (card flash.old) block.0 (card flash.old).shape.pages)) (λ _. ⊥) }
+    requires { (Sound (F.card flash.old)) × ((block.0 < block_count (F.card flash.old)) × (floor_at (F.card flash.old) block.0 ≡ 0)) }
+    ensures { MatchResult result (λ wrong. (wrong ≡ 0) × (F.card flash.new ≡ patterned (F.card flash.old) block.0 (F.card flash.old).shape.pages)) (λ _. ⊥) }
 {
     let size = flash.geometry().size;
     let mut written = [0u8; 4096];
@@ -83,8 +83,8 @@ fn check_block<F: Flash>(
     block: PhysicalBlock,
     outcome: BlockOutcome,
 ) -> Result<usize, Refusal>
-    requires { (Sound (card flash.old)) × ((block.0 < block_count (card flash.old)) × (outcome ≡ outcome_of (card flash.old) block.0)) }
-    ensures { MatchResult result (λ wrong. (wrong ≡ 0) × (card flash.new ≡ checked_as outcome (card flash.old) block.0)) (λ _. ⊥) }
+    requires { (Sound (F.card flash.old)) × ((block.0 < block_count (F.card flash.old)) × (outcome ≡ outcome_of (F.card flash.old) block.0)) }
+    ensures { MatchResult result (λ wrong. (wrong ≡ 0) × (F.card flash.new ≡ checked_as outcome (F.card flash.old) block.0)) (λ _. ⊥) }
 {
     match outcome {
         BlockOutcome::Worn => Ok(0),
@@ -99,9 +99,9 @@ fn check_block<F: Flash>(
 // Checks every block of a flash, in ascending order: a blank one is programmed with the pattern, another is
 // erased first or left alone where it may not be erased. The outcome of each block is noted in the table.
 pub fn check_flash<F: Flash>(flash: &mut F, outcomes: &mut [BlockOutcome; 256]) -> Summary
-    ensures leaves { card flash.new ≡ checked_below (block_count (card flash.old)) (card flash.old) }
-    ensures notes { outcomes.new ≡ noted_below (block_count (card flash.old)) (card flash.old) outcomes.old }
-    ensures tells { result ≡ summary_below (block_count (card flash.old)) (card flash.old) }
+    ensures leaves { F.card flash.new ≡ checked_below (block_count (F.card flash.old)) (F.card flash.old) }
+    ensures notes { outcomes.new ≡ noted_below (block_count (F.card flash.old)) (F.card flash.old) outcomes.old }
+    ensures tells { result ≡ summary_below (block_count (F.card flash.old)) (F.card flash.old) }
 {
     let geometry = flash.geometry();
     let mut summary = Summary {

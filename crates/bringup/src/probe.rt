@@ -11,8 +11,8 @@ use flash::refusal::Refusal;
 
 // Tries to erase a block that does not exist.
 fn erase_past<F: Flash>(flash: &mut F) -> Option<Refusal>
-    ensures tells { option_map number_of result ≡ erase_refusal (card flash.old) (block_count (card flash.old)) }
-    ensures leaves { card flash.new ≡ card flash.old }
+    ensures tells { option_map number_of result ≡ erase_refusal (F.card flash.old) (block_count (F.card flash.old)) }
+    ensures leaves { F.card flash.new ≡ F.card flash.old }
 {
     let past = PhysicalBlock(flash.geometry().blocks);
     flash.erase(past).err()
@@ -20,15 +20,15 @@ fn erase_past<F: Flash>(flash: &mut F) -> Option<Refusal>
 
 // Tries to read a page of block 0.
 fn read_refused<F: Flash>(flash: &F, page: usize, into: &mut [u8]) -> Option<Refusal>
-    ensures { option_map number_of result ≡ read_refusal (card flash.now) 0 page (length into.old) }
+    ensures { option_map number_of result ≡ read_refusal (F.card flash.now) 0 page (length into.old) }
 {
     flash.read(PhysicalBlock(0), page, into).err()
 }
 
 // Tries to program page 0 of block 0, where that is below the floor.
 fn program_below<F: Flash>(flash: &mut F) -> Option<Refusal>
-    ensures tells { option_map number_of result ≡ below_floor (card flash.old) }
-    ensures leaves { card flash.new ≡ card flash.old }
+    ensures tells { option_map number_of result ≡ below_floor (F.card flash.old) }
+    ensures leaves { F.card flash.new ≡ F.card flash.old }
 {
     let size = flash.geometry().size;
     if flash.floor(PhysicalBlock(0)) == 0 {
@@ -40,8 +40,8 @@ fn program_below<F: Flash>(flash: &mut F) -> Option<Refusal>
 
 // Tries to erase block 0, where it has had all of its erases.
 fn erase_worn<F: Flash>(flash: &mut F) -> Option<Refusal>
-    ensures tells { option_map number_of result ≡ worn_out (card flash.old) }
-    ensures leaves { card flash.new ≡ card flash.old }
+    ensures tells { option_map number_of result ≡ worn_out (F.card flash.old) }
+    ensures leaves { F.card flash.new ≡ F.card flash.old }
 {
     if flash.erase_count(PhysicalBlock(0)) < flash.geometry().endurance {
         return None;
@@ -51,8 +51,8 @@ fn erase_worn<F: Flash>(flash: &mut F) -> Option<Refusal>
 
 // Tries a call that is to be refused for each reason there is, and tells the refusals; the flash stays as it was.
 pub fn probe_refusals<F: Flash>(flash: &mut F) -> [Option<Refusal>; 5]
-    ensures tells { map (option_map number_of) result ≡ probed (card flash.old) }
-    ensures leaves { card flash.new ≡ card flash.old }
+    ensures tells { map (option_map number_of) result ≡ probed (F.card flash.old) }
+    ensures leaves { F.card flash.new ≡ F.card flash.old }
 {
     let pages = flash.geometry().pages;
     let size = flash.geometry().size;

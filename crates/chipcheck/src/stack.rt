@@ -18,8 +18,8 @@ pub fn check_stack<L: Flash + Drop, R: Flash + Drop>(
     bad: &[PhysicalBlock],
     outcomes: &mut [BlockOutcome; 256],
 ) -> Summary
-    ensures notes { outcomes.new ≡ noted_below (block_count (stack_card (L.Flash.card left) left_bad.now (R.Flash.card right) right_bad.now bad.now)) (stack_card (L.Flash.card left) left_bad.now (R.Flash.card right) right_bad.now bad.now) outcomes.old }
-    ensures tells { result ≡ summary_below (block_count (stack_card (L.Flash.card left) left_bad.now (R.Flash.card right) right_bad.now bad.now)) (stack_card (L.Flash.card left) left_bad.now (R.Flash.card right) right_bad.now bad.now) }
+    ensures notes { outcomes.new ≡ noted_below (block_count (stack_card (L.card left) left_bad.now (R.card right) right_bad.now bad.now)) (stack_card (L.card left) left_bad.now (R.card right) right_bad.now bad.now) outcomes.old }
+    ensures tells { result ≡ summary_below (block_count (stack_card (L.card left) left_bad.now (R.card right) right_bad.now bad.now)) (stack_card (L.card left) left_bad.now (R.card right) right_bad.now bad.now) }
 {
     let mut stack = stacked(left, left_bad, right, right_bad, bad);
     check_flash(&mut stack, outcomes)

@@ -52,7 +52,7 @@ impl<F: Flash> GoodBlocks<F> {
     pub fn new(flash: F, bad: &[PhysicalBlock]) -> GoodBlocks<F>
         ensures over { result.flash ≡ flash }
         ensures without { result.bad ≡ bad_table bad.now }
-        ensures means { good_card result.bad (F.Flash.card result.flash) ≡ good_card (bad_table bad.now) (F.Flash.card flash) }
+        ensures means { good_card result.bad (F.card result.flash) ≡ good_card (bad_table bad.now) (F.card flash) }
     {
         let mut marks = [false; 256];
         for block in bad {
@@ -74,14 +74,14 @@ impl<F: Flash> GoodBlocks<F> {
 
     // The block below that a block stands for, if there is one.
     fn below(&self, block: PhysicalBlock) -> Option<PhysicalBlock>
-        ensures { result ≡ good_block self.now.bad (block_count (F.Flash.card self.now.flash)) block.0 }
+        ensures { result ≡ good_block self.now.bad (block_count (F.card self.now.flash)) block.0 }
     {
         find(&self.bad, self.flash.geometry().blocks, block.0)
     }
 }
 
 impl<F: Flash> Flash for GoodBlocks<F> {
-    ghost card = { λ s. good_card s.bad (F.Flash.card s.flash) };
+    ghost card = { λ s. good_card s.bad (F.card s.flash) };
 
     fn geometry(&self) -> Geometry {
         let all = self.flash.geometry();

@@ -44,7 +44,7 @@ fn side_of(block: PhysicalBlock) -> Side
 impl<L: Flash, R: Flash> Pair<L, R> {
     // Why the two flashes do not fit side by side, or nothing where they do.
     pub fn fault(left: &L, right: &R) -> Option<MakingFault>
-        ensures { result ≡ pair_fault (L.Flash.card left.now) (R.Flash.card right.now) }
+        ensures { result ≡ pair_fault (L.card left.now) (R.card right.now) }
     {
         if fits(left.geometry(), right.geometry()) {
             None
@@ -57,7 +57,7 @@ impl<L: Flash, R: Flash> Pair<L, R> {
     pub fn new(left: L, right: R) -> Pair<L, R>
         ensures lefts { result.left ≡ left }
         ensures rights { result.right ≡ right }
-        ensures means { pair_card (L.Flash.card result.left) (R.Flash.card result.right) ≡ pair_card (L.Flash.card left) (R.Flash.card right) }
+        ensures means { pair_card (L.card result.left) (R.card result.right) ≡ pair_card (L.card left) (R.card right) }
     {
         Pair { left, right }
     }
@@ -73,7 +73,7 @@ impl<L: Flash, R: Flash> Pair<L, R> {
 
     // The side of a block, or nothing where the two flashes do not fit.
     fn locate(&self, block: PhysicalBlock) -> Option<Side>
-        ensures { result ≡ side_in (L.Flash.card self.now.left) (R.Flash.card self.now.right) block.0 }
+        ensures { result ≡ side_in (L.card self.now.left) (R.card self.now.right) block.0 }
     {
         if fits(self.left.geometry(), self.right.geometry()) {
             Some(side_of(block))
@@ -84,7 +84,7 @@ impl<L: Flash, R: Flash> Pair<L, R> {
 }
 
 impl<L: Flash, R: Flash> Flash for Pair<L, R> {
-    ghost card = { λ s. pair_card (L.Flash.card s.left) (R.Flash.card s.right) };
+    ghost card = { λ s. pair_card (L.card s.left) (R.card s.right) };
 
     fn geometry(&self) -> Geometry {
         let left = self.left.geometry();

@@ -1,5 +1,5 @@
 ghost use Rattle.std.specs.Prelude.{◌≡◌, ℕ};
-ghost use Rattle.rules.specs.Choice.{greatest as greatestBy};
+ghost use Rattle.rules.specs.Choice.{greatest as greatest_by};
 
 // A record that tells a count.
 pub trait Counted {
@@ -13,7 +13,7 @@ pub trait Counted {
 
 // The place of the record with the greatest count, the lowest place on a tie. None if there is no record.
 pub fn greatest<T: Counted>(records: &[T]) -> Option<usize>
-    ensures { result ≡ greatestBy tally records.now }
+    ensures { result ≡ greatest_by tally records.now }
 {
     if records.len() == 0 {
         return None;

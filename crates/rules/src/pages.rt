@@ -1,5 +1,5 @@
 ghost use Rattle.std.specs.Prelude.{◌≡◌, ◌^◌, not, ◌&&◌, ◌||◌, ◌==◌, nat_lt};
-ghost use Rattle.rules.specs.Sets.{has as hasPage, set_of, pages_in};
+ghost use Rattle.rules.specs.Sets.{has as has_page, set_of, pages_in};
 
 // A set of pages of one block, in which page i counts 2^i.
 #[derive(Clone, Copy, PartialEq, Eq, Debug)]
@@ -11,14 +11,14 @@ impl PageSet {
 
     // Whether the set has a page. It has none from 64 on.
     pub fn has(self, page: usize) -> bool
-        ensures { result ≡ hasPage self.0 page }
+        ensures { result ≡ has_page self.0 page }
     {
         page < 64 && (self.0 >> page) & 1 == 1
     }
 
     // The set with one page more. A page from 64 on is left out.
     pub fn with(self, page: usize) -> PageSet
-        ensures { result.0 ≡ set_of 64 (λ j. (j == page) || hasPage self.0 j) }
+        ensures { result.0 ≡ set_of 64 (λ j. (j == page) || has_page self.0 j) }
     {
         if page < 64 {
             PageSet(self.0 | (1 << page))
@@ -29,7 +29,7 @@ impl PageSet {
 
     // The pages of the set that another set has not.
     pub fn without(self, other: PageSet) -> PageSet
-        ensures { result.0 ≡ set_of 64 (λ j. hasPage self.0 j && not (hasPage other.0 j)) }
+        ensures { result.0 ≡ set_of 64 (λ j. has_page self.0 j && not (has_page other.0 j)) }
     {
         PageSet(self.0 & !other.0)
     }

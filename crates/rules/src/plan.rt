@@ -1,5 +1,5 @@
 ghost use Rattle.std.specs.Prelude.{◌≡◌};
-ghost use Rattle.rules.specs.State.{plan_within, capacity as capacityOf, quota as quotaOf};
+ghost use Rattle.rules.specs.State.{plan_within, capacity as capacity_of, quota as quota_of};
 
 // How a card is divided, as format is told.
 #[derive(Clone, Copy, PartialEq, Eq, Debug)]
@@ -17,14 +17,14 @@ pub struct Plan {
 impl Plan {
     // The slots of the page-mapped region without its reserve, in blocks of so many pages.
     pub fn capacity(self, pages: usize) -> u128
-        ensures { result ≡ capacityOf self pages }
+        ensures { result ≡ capacity_of self pages }
     {
         self.region.saturating_sub(1) as u128 * pages as u128
     }
 
     // How many live slots there are at the least when garbage collection has to merge.
     pub fn quota(self, pages: usize) -> u128
-        ensures { result ≡ quotaOf self pages }
+        ensures { result ≡ quota_of self pages }
     {
         let reached = (self.threshold as u128).max(self.idle as u128 + 1);
         (self.capacity(pages) + 1).saturating_sub(reached)

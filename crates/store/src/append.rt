@@ -35,8 +35,8 @@ fn store_page<F: Flash>(
     page: usize,
     bytes: &[u8],
 ) -> Result<(), Refusal>
-    requires { CanStore (state_of maps.old (card flash.old)) block.0 page (length bytes.now) }
-    ensures { MatchResult result (λ _. state_of maps.new (card flash.new) ≡ stored (state_of maps.old (card flash.old)) block.0 page (Some bytes.now)) (λ _. ⊥) }
+    requires { CanStore (state_of maps.old (F.card flash.old)) block.0 page (length bytes.now) }
+    ensures { MatchResult result (λ _. state_of maps.new (F.card flash.new) ≡ stored (state_of maps.old (F.card flash.old)) block.0 page (Some bytes.now)) (λ _. ⊥) }
 {
     let Some(place) = maps.open_block() else {
         unreachable()
@@ -55,8 +55,8 @@ pub(crate) fn append_pages<F: Flash>(
     set: PageSet,
     bytes: &[u8],
 ) -> Result<(), Refusal>
-    requires { CanAppend (state_of maps.old (card flash.old)) block.0 set.0 (length bytes.now) }
-    ensures { MatchResult result (λ _. state_of maps.new (card flash.new) ≡ appended (state_of maps.old (card flash.old)) block.0 (row_of (card flash.old).shape.size set.0 bytes.now) maps.old.pages) (λ _. ⊥) }
+    requires { CanAppend (state_of maps.old (F.card flash.old)) block.0 set.0 (length bytes.now) }
+    ensures { MatchResult result (λ _. state_of maps.new (F.card flash.new) ≡ appended (state_of maps.old (F.card flash.old)) block.0 (row_of (F.card flash.old).shape.size set.0 bytes.now) maps.old.pages) (λ _. ⊥) }
 {
     let size = flash.geometry().size;
     let pages = maps.pages;

@@ -19,8 +19,8 @@ impl<F: Flash> Store<F> {
         block: LogicalBlock,
         pages: PageSet,
     ) -> Result<(), StoreRefusal>
-        ensures is { CheckedAs result self.now.formatted (state_of self.now.maps (F.Flash.card self.now.flash)) (discard block.0 pages.0) }
-        ensures sound { Sound (F.Flash.card self.now.flash) }
+        ensures is { CheckedAs result self.now.formatted (state_of self.now.maps (F.card self.now.flash)) (discard block.0 pages.0) }
+        ensures sound { Sound (F.card self.now.flash) }
     {
         if !self.is_ready() {
             return Err(StoreRefusal::Unformatted);
@@ -45,8 +45,8 @@ impl<F: Flash> Store<F> {
         bytes: &[u8],
         area: usize,
     ) -> Result<(), StoreRefusal>
-        ensures is { CheckedAs result self.now.formatted (state_of self.now.maps (F.Flash.card self.now.flash)) (flush block.0 pages.0 bytes.now area) }
-        ensures sound { Sound (F.Flash.card self.now.flash) }
+        ensures is { CheckedAs result self.now.formatted (state_of self.now.maps (F.card self.now.flash)) (flush block.0 pages.0 bytes.now area) }
+        ensures sound { Sound (F.card self.now.flash) }
     {
         self.check_pages(block, pages)?;
         let size = self.flash.geometry().size;
@@ -58,8 +58,8 @@ impl<F: Flash> Store<F> {
 
     // Whether garbage collection can be made by way of a work area of this length.
     pub(crate) fn check_idle(&self, area: usize) -> Result<(), StoreRefusal>
-        ensures is { CheckedAs result self.now.formatted (state_of self.now.maps (F.Flash.card self.now.flash)) (idle area) }
-        ensures sound { Sound (F.Flash.card self.now.flash) }
+        ensures is { CheckedAs result self.now.formatted (state_of self.now.maps (F.card self.now.flash)) (idle area) }
+        ensures sound { Sound (F.card self.now.flash) }
     {
         if !self.is_ready() {
             return Err(StoreRefusal::Unformatted);

@@ -9,8 +9,8 @@ use flash::refusal::Refusal;
 
 // Erases a block unless it is blank, and tells how many erases that took.
 pub(crate) fn clear<F: Flash>(flash: &mut F, block: PhysicalBlock) -> Result<usize, Refusal>
-    requires { (block.0 < block_count (card flash.old)) × (erase_count_at (card flash.old) block.0 < (card flash.old).shape.endurance) }
-    ensures { MatchResult result (λ erases. (erases ≡ clearing (card flash.old) block.0) × (card flash.new ≡ cleared (card flash.old) block.0)) (λ _. ⊥) }
+    requires { (block.0 < block_count (F.card flash.old)) × (erase_count_at (F.card flash.old) block.0 < (F.card flash.old).shape.endurance) }
+    ensures { MatchResult result (λ erases. (erases ≡ clearing (F.card flash.old) block.0) × (F.card flash.new ≡ cleared (F.card flash.old) block.0)) (λ _. ⊥) }
 {
     if flash.floor(block) == 0 {
         return Ok(0);
@@ -21,8 +21,8 @@ pub(crate) fn clear<F: Flash>(flash: &mut F, block: PhysicalBlock) -> Result<usi
 
 // Erases every block below a number unless it is blank, and tells how many erases that took.
 pub(crate) fn clear_below<F: Flash>(flash: &mut F, blocks: u16) -> Result<usize, Refusal>
-    requires { (blocks ≤ block_count (card flash.old)) × (near_worn (block_count (card flash.old)) (card flash.old) ≡ false) }
-    ensures { MatchResult result (λ erases. (erases ≡ clearing_below blocks (card flash.old)) × (card flash.new ≡ cleared_below blocks (card flash.old))) (λ _. ⊥) }
+    requires { (blocks ≤ block_count (F.card flash.old)) × (near_worn (block_count (F.card flash.old)) (F.card flash.old) ≡ false) }
+    ensures { MatchResult result (λ erases. (erases ≡ clearing_below blocks (F.card flash.old)) × (F.card flash.new ≡ cleared_below blocks (F.card flash.old))) (λ _. ⊥) }
 {
     let mut erases = 0;
     for number in 0..blocks {

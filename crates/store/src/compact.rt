@@ -18,8 +18,8 @@ pub(crate) fn compact<F: Flash>(
     victim: usize,
     page: &mut [u8],
 ) -> Result<(), Refusal>
-    requires { CanCollect (state_of maps.old (card flash.old)) victim (length page.old) }
-    ensures { MatchResult result (λ _. state_of maps.new (card flash.new) ≡ compacted_at (state_of maps.old (card flash.old)) victim) (λ _. ⊥) }
+    requires { CanCollect (state_of maps.old (F.card flash.old)) victim (length page.old) }
+    ensures { MatchResult result (λ _. state_of maps.new (F.card flash.new) ≡ compacted_at (state_of maps.old (F.card flash.old)) victim) (λ _. ⊥) }
 {
     let reserve = maps.reserve;
     let from = region_block(maps.plan, victim);

@@ -16,8 +16,8 @@ pub(crate) fn copy_live<F: Flash>(
     to: PhysicalBlock,
     page: &mut [u8],
 ) -> Result<RegionBlock, Refusal>
-    requires { (Shaped block.now) × (CanCopy (card flash.old) block.now.used from.0 to.0 (length page.old)) }
-    ensures { MatchResult result (λ k. Shaped k × ((slots_of k ≡ kept (slots_of block.now)) × (card flash.new ≡ copied from.0 to.0 (slots_of block.now) 0 0 (card flash.old)))) (λ _. ⊥) }
+    requires { (Shaped block.now) × (CanCopy (F.card flash.old) block.now.used from.0 to.0 (length page.old)) }
+    ensures { MatchResult result (λ k. Shaped k × ((slots_of k ≡ kept (slots_of block.now)) × (F.card flash.new ≡ copied from.0 to.0 (slots_of block.now) 0 0 (F.card flash.old)))) (λ _. ⊥) }
 {
     let mut copies = RegionBlock::empty();
     for slot in 0..block.used {

@@ -1,6 +1,6 @@
 ghost use Rattle.std.specs.Prelude.{◌≡◌, ◌+◌, length, sum_by};
 ghost use Rattle.flash.specs.Meaning.{Card};
-ghost use Rattle.rules.specs.State.{capacity as capacityOf, deads, live_of, dead_of, free_of};
+ghost use Rattle.rules.specs.State.{capacity as capacity_of, deads, live_of, dead_of, free_of};
 ghost use Rattle.store.specs.State.{state_of};
 ghost use Rattle.store.specs.View.{slots_of, table_of};
 
@@ -57,7 +57,7 @@ impl Maps {
     // The slots that are not programmed, without those of the reserve.
     pub(crate) fn free(&self) -> usize
         ensures is { (c : Card) → result ≡ free_of (state_of self.now c) }
-        ensures all { (c : Card) → live_of (state_of self.now c) + dead_of (state_of self.now c) + result ≡ capacityOf self.now.plan self.now.pages }
+        ensures all { (c : Card) → live_of (state_of self.now c) + dead_of (state_of self.now c) + result ≡ capacity_of self.now.plan self.now.pages }
     {
         self.plan.capacity(self.pages) as usize - self.used()
     }

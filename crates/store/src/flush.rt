@@ -1,5 +1,5 @@
 ghost use Rattle.std.specs.Prelude.{◌≡◌, ◌*◌, true, length, drop, is_err, MatchResult};
-ghost use Rattle.rules.specs.Calls.{done as doneWith, flush as flushCall, flushed, row_of};
+ghost use Rattle.rules.specs.Calls.{done as done_with, flush as flush_call, flushed, row_of};
 ghost use Rattle.rules.specs.Sets.{pages_in};
 ghost use Rattle.store.specs.Calls.{state_in, state_after, report_of, AnsweredAs, FewAs, area_after, block_bytes};
 ghost use Rattle.store.specs.Rounds.{CanPlace};
@@ -29,9 +29,9 @@ fn place_group<F: Flash>(
     bytes: &[u8],
     area: &mut [u8],
 ) -> Result<Report, Refusal>
-    requires { CanPlace (state_of maps.old (card flash.old)) block.0 pages.0 (length bytes.now) (length area.old) }
-    ensures done { MatchResult result (λ t. (doneWith (report_of t) ≡ (flushed (state_of maps.old (card flash.old)) block.0 pages.0 (row_of (card flash.old).shape.size pages.0 bytes.now)).0) × (state_of maps.new (card flash.new) ≡ (flushed (state_of maps.old (card flash.old)) block.0 pages.0 (row_of (card flash.old).shape.size pages.0 bytes.now)).1)) (λ _. ⊥) }
-    ensures beyond { drop (maps.old.pages * (card flash.old).shape.size) area.new ≡ drop (maps.old.pages * (card flash.old).shape.size) area.old }
+    requires { CanPlace (state_of maps.old (F.card flash.old)) block.0 pages.0 (length bytes.now) (length area.old) }
+    ensures done { MatchResult result (λ t. (done_with (report_of t) ≡ (flushed (state_of maps.old (F.card flash.old)) block.0 pages.0 (row_of (F.card flash.old).shape.size pages.0 bytes.now)).0) × (state_of maps.new (F.card flash.new) ≡ (flushed (state_of maps.old (F.card flash.old)) block.0 pages.0 (row_of (F.card flash.old).shape.size pages.0 bytes.now)).1)) (λ _. ⊥) }
+    ensures beyond { drop (maps.old.pages * (F.card flash.old).shape.size) area.new ≡ drop (maps.old.pages * (F.card flash.old).shape.size) area.old }
 {
     let slots = pages.len();
     if slots > maps.plan.threshold {
@@ -64,9 +64,9 @@ impl<F: Flash> Store<F> {
         bytes: &[u8],
         area: &mut [u8],
     ) -> Result<Report, StoreRefusal>
-        ensures tells { AnsweredAs result (state_in self.old.formatted (state_of self.old.maps (F.Flash.card self.old.flash))) (flushCall block.0 pages.0 bytes.now (length area.old)) }
-        ensures leaves { state_in self.new.formatted (state_of self.new.maps (F.Flash.card self.new.flash)) ≡ state_after (state_in self.old.formatted (state_of self.old.maps (F.Flash.card self.old.flash))) (flushCall block.0 pages.0 bytes.now (length area.old)) }
-        ensures clears { area.new ≡ area_after result (block_bytes (F.Flash.card self.old.flash)) area.old }
+        ensures tells { AnsweredAs result (state_in self.old.formatted (state_of self.old.maps (F.card self.old.flash))) (flush_call block.0 pages.0 bytes.now (length area.old)) }
+        ensures leaves { state_in self.new.formatted (state_of self.new.maps (F.card self.new.flash)) ≡ state_after (state_in self.old.formatted (state_of self.old.maps (F.card self.old.flash))) (flush_call block.0 pages.0 bytes.now (length area.old)) }
+        ensures clears { area.new ≡ area_after result (block_bytes (F.card self.old.flash)) area.old }
         ensures few { FewAs result (pages_in self.old.maps.pages pages.0) }
         ensures refused { is_err result ≡ true → self.new ≡ self.old }
     {

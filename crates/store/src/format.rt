@@ -1,5 +1,5 @@
 ghost use Rattle.std.specs.Prelude.{◌≡◌, true, is_err};
-ghost use Rattle.rules.specs.Calls.{formatted as stateFrom};
+ghost use Rattle.rules.specs.Calls.{formatted as state_from};
 ghost use Rattle.rules.specs.Law.{Kept, Lasts};
 ghost use Rattle.store.specs.Calls.{state_in, state_formatted, FormatAs, Once};
 ghost use Rattle.store.specs.State.{state_of};
@@ -19,10 +19,10 @@ impl<F: Flash> Store<F> {
     // and by just what the answers tell, and every page reads back as it was last flushed (`keeps`); and no call is
     // refused for wear as long as every block has the ceiling and 128 erases to spare (`lasts`).
     pub fn format(&mut self, plan: Plan) -> Result<usize, StoreRefusal>
-        ensures tells { FormatAs result plan (F.Flash.card self.old.flash) }
-        ensures leaves { state_in self.new.formatted (state_of self.new.maps (F.Flash.card self.new.flash)) ≡ state_formatted result plan (F.Flash.card self.old.flash) (state_in self.old.formatted (state_of self.old.maps (F.Flash.card self.old.flash))) }
-        ensures keeps { Once result (Kept (stateFrom plan (F.Flash.card self.old.flash))) }
-        ensures lasts { Once result (Lasts (stateFrom plan (F.Flash.card self.old.flash))) }
+        ensures tells { FormatAs result plan (F.card self.old.flash) }
+        ensures leaves { state_in self.new.formatted (state_of self.new.maps (F.card self.new.flash)) ≡ state_formatted result plan (F.card self.old.flash) (state_in self.old.formatted (state_of self.old.maps (F.card self.old.flash))) }
+        ensures keeps { Once result (Kept (state_from plan (F.card self.old.flash))) }
+        ensures lasts { Once result (Lasts (state_from plan (F.card self.old.flash))) }
         ensures refused { is_err result ≡ true → self.new ≡ self.old }
     {
         let geometry = self.flash.geometry();

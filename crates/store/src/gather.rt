@@ -1,5 +1,5 @@
 ghost use Rattle.std.specs.Prelude.{◌≡◌, ◌*◌, length, take, drop, MatchResult};
-ghost use Rattle.rules.specs.Sets.{has as hasPage};
+ghost use Rattle.rules.specs.Sets.{has as has_page};
 ghost use Rattle.rules.specs.Moves.{gathered};
 ghost use Rattle.rules.specs.Calls.{row_of};
 ghost use Rattle.store.specs.Moves.{CanFetch, CanRewrite, Laid, page_if};
@@ -22,8 +22,8 @@ fn fetch<F: Flash>(
     rest: &[u8],
     into: &mut [u8],
 ) -> Result<bool, Refusal>
-    requires { CanFetch (state_of maps.now (card flash.now)) block.0 page set.0 (length rest.now) (length into.old) }
-    ensures { MatchResult result (λ there. page_if there into.new ≡ gathered (state_of maps.now (card flash.now)) block.0 (λ _. page_if (hasPage set.0 page) (take (card flash.now).shape.size rest.now)) page) (λ _. ⊥) }
+    requires { CanFetch (state_of maps.now (F.card flash.now)) block.0 page set.0 (length rest.now) (length into.old) }
+    ensures { MatchResult result (λ there. page_if there into.new ≡ gathered (state_of maps.now (F.card flash.now)) block.0 (λ _. page_if (has_page set.0 page) (take (F.card flash.now).shape.size rest.now)) page) (λ _. ⊥) }
 {
     if set.has(page) {
         into.copy_from_slice(&rest[0..into.len()]);
@@ -46,9 +46,9 @@ pub(crate) fn gather<F: Flash>(
     bytes: &[u8],
     area: &mut [u8],
 ) -> Result<PageSet, Refusal>
-    requires { CanRewrite (state_of maps.now (card flash.now)) block.0 set.0 (length bytes.now) (length area.old) }
-    ensures laid { MatchResult result (λ pages. Laid (gathered (state_of maps.now (card flash.now)) block.0 (row_of (card flash.now).shape.size set.0 bytes.now)) pages.0 (card flash.now).shape.size area.new maps.now.pages) (λ _. ⊥) }
-    ensures beyond { drop (maps.now.pages * (card flash.now).shape.size) area.new ≡ drop (maps.now.pages * (card flash.now).shape.size) area.old }
+    requires { CanRewrite (state_of maps.now (F.card flash.now)) block.0 set.0 (length bytes.now) (length area.old) }
+    ensures laid { MatchResult result (λ pages. Laid (gathered (state_of maps.now (F.card flash.now)) block.0 (row_of (F.card flash.now).shape.size set.0 bytes.now)) pages.0 (F.card flash.now).shape.size area.new maps.now.pages) (λ _. ⊥) }
+    ensures beyond { drop (maps.now.pages * (F.card flash.now).shape.size) area.new ≡ drop (maps.now.pages * (F.card flash.now).shape.size) area.old }
 {
     let size = flash.geometry().size;
     let mut rest = bytes;

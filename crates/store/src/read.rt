@@ -16,7 +16,7 @@ impl<F: Flash> Store<F> {
         page: usize,
         into: &mut [u8],
     ) -> Result<Region, StoreRefusal>
-        ensures { ReadAs result (state_in self.now.formatted (state_of self.now.maps (F.Flash.card self.now.flash))) block.0 page into.old into.new }
+        ensures { ReadAs result (state_in self.now.formatted (state_of self.now.maps (F.card self.now.flash))) block.0 page into.old into.new }
     {
         if !self.is_ready() {
             return Err(StoreRefusal::Unformatted);

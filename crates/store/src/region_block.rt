@@ -1,6 +1,6 @@
 ghost use Rattle.std.specs.Prelude.{◌≡◌, ◌+◌, ◌<◌, [], ◌∷◌, ◌++◌, map, slice_set};
 ghost use Rattle.rules.specs.State.{live, dead};
-ghost use Rattle.rules.specs.Moves.{retire as retireIf, of_block};
+ghost use Rattle.rules.specs.Moves.{retire as retire_if, of_block};
 ghost use Rattle.store.specs.View.{slots_of, Shaped};
 
 use crate::slot::{RegionBlock, Slot};
@@ -42,7 +42,7 @@ impl RegionBlock {
     pub(crate) fn retire(&mut self, block: LogicalBlock)
         requires { Shaped self.old }
         ensures shaped { Shaped self.new }
-        ensures slots { slots_of self.new ≡ map (retireIf (of_block block.0)) (slots_of self.old) }
+        ensures slots { slots_of self.new ≡ map (retire_if (of_block block.0)) (slots_of self.old) }
     {
         for i in 0..self.used {
             let slot = self.slots[i];

@@ -22,8 +22,8 @@ pub(crate) fn write_block<F: Flash>(
     set: PageSet,
     area: &[u8],
 ) -> Result<usize, Refusal>
-    requires { CanFill (card flash.old) block.0 (length area.now) }
-    ensures { MatchResult result (λ erases. (erases ≡ clearing (card flash.old) block.0) × (card flash.new ≡ filled (cleared (card flash.old) block.0) block.0 (row_in set.0 (card flash.old).shape.size area.now) (card flash.old).shape.pages)) (λ _. ⊥) }
+    requires { CanFill (F.card flash.old) block.0 (length area.now) }
+    ensures { MatchResult result (λ erases. (erases ≡ clearing (F.card flash.old) block.0) × (F.card flash.new ≡ filled (cleared (F.card flash.old) block.0) block.0 (row_in set.0 (F.card flash.old).shape.size area.now) (F.card flash.old).shape.pages)) (λ _. ⊥) }
 {
     let erases = clear(flash, block)?;
     let pages = flash.geometry().pages;
@@ -47,9 +47,9 @@ pub(crate) fn rewrite<F: Flash>(
     bytes: &[u8],
     area: &mut [u8],
 ) -> Result<usize, Refusal>
-    requires { CanRewrite (state_of maps.old (card flash.old)) block.0 set.0 (length bytes.now) (length area.old) }
-    ensures done { MatchResult result (λ erases. (erases ≡ clearing (card flash.old) block.0) × (state_of maps.new (card flash.new) ≡ rewritten (state_of maps.old (card flash.old)) block.0 (row_of (card flash.old).shape.size set.0 bytes.now))) (λ _. ⊥) }
-    ensures beyond { drop (maps.old.pages * (card flash.old).shape.size) area.new ≡ drop (maps.old.pages * (card flash.old).shape.size) area.old }
+    requires { CanRewrite (state_of maps.old (F.card flash.old)) block.0 set.0 (length bytes.now) (length area.old) }
+    ensures done { MatchResult result (λ erases. (erases ≡ clearing (F.card flash.old) block.0) × (state_of maps.new (F.card flash.new) ≡ rewritten (state_of maps.old (F.card flash.old)) block.0 (row_of (F.card flash.old).shape.size set.0 bytes.now))) (λ _. ⊥) }
+    ensures beyond { drop (maps.old.pages * (F.card flash.old).shape.size) area.new ≡ drop (maps.old.pages * (F.card flash.old).shape.size) area.old }
 {
     let pages = gather(flash, maps, block, set, bytes, area)?;
     let erases = write_block(flash, data_block(block), pages, area)?;

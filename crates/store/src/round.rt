@@ -1,5 +1,5 @@
 ghost use Rattle.std.specs.Prelude.{◌≡◌, ◌*◌, ◌<◌, length, drop, MatchResult};
-ghost use Rattle.rules.specs.Moves.{round as roundOf, rounds_for, at_rest};
+ghost use Rattle.rules.specs.Moves.{round as round_of, rounds_for, at_rest};
 ghost use Rattle.rules.specs.State.{dead_of};
 ghost use Rattle.rules.proofs.ReadyRounds.{Roundable};
 ghost use Rattle.store.specs.Rounds.{tally_of, Roomy, CanMakeRoom};
@@ -19,9 +19,9 @@ fn compact_worst<F: Flash>(
     maps: &mut Maps,
     area: &mut [u8],
 ) -> Result<Tally, Refusal>
-    requires { (Roundable (state_of maps.old (card flash.old))) × ((Roomy (state_of maps.old (card flash.old)) (length area.old)) × (0 < dead_of (state_of maps.old (card flash.old)))) }
-    ensures done { MatchResult result (λ t. (t ≡ tally_of (roundOf (at_rest (state_of maps.old (card flash.old)))).rounds) × (state_of maps.new (card flash.new) ≡ (roundOf (at_rest (state_of maps.old (card flash.old)))).state)) (λ _. ⊥) }
-    ensures beyond { drop (maps.old.pages * (card flash.old).shape.size) area.new ≡ drop (maps.old.pages * (card flash.old).shape.size) area.old }
+    requires { (Roundable (state_of maps.old (F.card flash.old))) × ((Roomy (state_of maps.old (F.card flash.old)) (length area.old)) × (0 < dead_of (state_of maps.old (F.card flash.old)))) }
+    ensures done { MatchResult result (λ t. (t ≡ tally_of (round_of (at_rest (state_of maps.old (F.card flash.old)))).rounds) × (state_of maps.new (F.card flash.new) ≡ (round_of (at_rest (state_of maps.old (F.card flash.old)))).state)) (λ _. ⊥) }
+    ensures beyond { drop (maps.old.pages * (F.card flash.old).shape.size) area.new ≡ drop (maps.old.pages * (F.card flash.old).shape.size) area.old }
 {
     let Some(victim) = maps.victim() else {
         unreachable()
@@ -41,9 +41,9 @@ fn merge_fullest<F: Flash>(
     maps: &mut Maps,
     area: &mut [u8],
 ) -> Result<Tally, Refusal>
-    requires { (Roundable (state_of maps.old (card flash.old))) × ((Roomy (state_of maps.old (card flash.old)) (length area.old)) × (dead_of (state_of maps.old (card flash.old)) ≡ 0)) }
-    ensures done { MatchResult result (λ t. (t ≡ tally_of (roundOf (at_rest (state_of maps.old (card flash.old)))).rounds) × (state_of maps.new (card flash.new) ≡ (roundOf (at_rest (state_of maps.old (card flash.old)))).state)) (λ _. ⊥) }
-    ensures beyond { drop (maps.old.pages * (card flash.old).shape.size) area.new ≡ drop (maps.old.pages * (card flash.old).shape.size) area.old }
+    requires { (Roundable (state_of maps.old (F.card flash.old))) × ((Roomy (state_of maps.old (F.card flash.old)) (length area.old)) × (dead_of (state_of maps.old (F.card flash.old)) ≡ 0)) }
+    ensures done { MatchResult result (λ t. (t ≡ tally_of (round_of (at_rest (state_of maps.old (F.card flash.old)))).rounds) × (state_of maps.new (F.card flash.new) ≡ (round_of (at_rest (state_of maps.old (F.card flash.old)))).state)) (λ _. ⊥) }
+    ensures beyond { drop (maps.old.pages * (F.card flash.old).shape.size) area.new ≡ drop (maps.old.pages * (F.card flash.old).shape.size) area.old }
 {
     let Some(block) = maps.fullest() else {
         unreachable()
@@ -62,9 +62,9 @@ pub(crate) fn collect<F: Flash>(
     maps: &mut Maps,
     area: &mut [u8],
 ) -> Result<Tally, Refusal>
-    requires { (Roundable (state_of maps.old (card flash.old))) × (Roomy (state_of maps.old (card flash.old)) (length area.old)) }
-    ensures done { MatchResult result (λ t. (t ≡ tally_of (roundOf (at_rest (state_of maps.old (card flash.old)))).rounds) × (state_of maps.new (card flash.new) ≡ (roundOf (at_rest (state_of maps.old (card flash.old)))).state)) (λ _. ⊥) }
-    ensures beyond { drop (maps.old.pages * (card flash.old).shape.size) area.new ≡ drop (maps.old.pages * (card flash.old).shape.size) area.old }
+    requires { (Roundable (state_of maps.old (F.card flash.old))) × (Roomy (state_of maps.old (F.card flash.old)) (length area.old)) }
+    ensures done { MatchResult result (λ t. (t ≡ tally_of (round_of (at_rest (state_of maps.old (F.card flash.old)))).rounds) × (state_of maps.new (F.card flash.new) ≡ (round_of (at_rest (state_of maps.old (F.card flash.old)))).state)) (λ _. ⊥) }
+    ensures beyond { drop (maps.old.pages * (F.card flash.old).shape.size) area.new ≡ drop (maps.old.pages * (F.card flash.old).shape.size) area.old }
 {
     if maps.dead() > 0 {
         return compact_worst(flash, maps, area);
@@ -79,9 +79,9 @@ pub(crate) fn make_room<F: Flash>(
     slots: usize,
     area: &mut [u8],
 ) -> Result<Tally, Refusal>
-    requires { CanMakeRoom (state_of maps.old (card flash.old)) slots (length area.old) }
-    ensures done { MatchResult result (λ t. (t ≡ tally_of (rounds_for (2 * slots) slots (at_rest (state_of maps.old (card flash.old)))).rounds) × (state_of maps.new (card flash.new) ≡ (rounds_for (2 * slots) slots (at_rest (state_of maps.old (card flash.old)))).state)) (λ _. ⊥) }
-    ensures beyond { drop (maps.old.pages * (card flash.old).shape.size) area.new ≡ drop (maps.old.pages * (card flash.old).shape.size) area.old }
+    requires { CanMakeRoom (state_of maps.old (F.card flash.old)) slots (length area.old) }
+    ensures done { MatchResult result (λ t. (t ≡ tally_of (rounds_for (2 * slots) slots (at_rest (state_of maps.old (F.card flash.old)))).rounds) × (state_of maps.new (F.card flash.new) ≡ (rounds_for (2 * slots) slots (at_rest (state_of maps.old (F.card flash.old)))).state)) (λ _. ⊥) }
+    ensures beyond { drop (maps.old.pages * (F.card flash.old).shape.size) area.new ≡ drop (maps.old.pages * (F.card flash.old).shape.size) area.old }
 {
     let mut tally = Tally {
         erases: 0,

@@ -19,7 +19,7 @@ pub struct SlotCounts {
 impl<F: Flash> Store<F> {
     // The slots of the page-mapped region, counted; none of a store that is not formatted.
     pub fn slots(&self) -> SlotCounts
-        ensures { result ≡ slots_in (state_in self.now.formatted (state_of self.now.maps (F.Flash.card self.now.flash))) }
+        ensures { result ≡ slots_in (state_in self.now.formatted (state_of self.now.maps (F.card self.now.flash))) }
     {
         if !self.is_ready() {
             return SlotCounts {

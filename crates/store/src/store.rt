@@ -22,8 +22,8 @@ pub struct Store<F: Flash> {
 
 // Whether a flash is as the maps say: its pages, room for the plan, and the floors of the page-mapped region.
 pub(crate) fn agrees<F: Flash>(flash: &F, maps: &Maps) -> bool
-    ensures is { result ≡ agreeing (state_of maps.now (card flash.now)) }
-    ensures sound { Sound (card flash.now) }
+    ensures is { result ≡ agreeing (state_of maps.now (F.card flash.now)) }
+    ensures sound { Sound (F.card flash.now) }
 {
     let geometry = flash.geometry();
     if maps.pages != geometry.pages {
@@ -45,7 +45,7 @@ impl<F: Flash> Store<F> {
     // A store over a flash, not formatted yet.
     pub fn new(flash: F) -> Store<F>
         ensures over { result.flash ≡ flash }
-        ensures state { state_in result.formatted (state_of result.maps (F.Flash.card result.flash)) ≡ None }
+        ensures state { state_in result.formatted (state_of result.maps (F.card result.flash)) ≡ None }
     {
         Store {
             flash,
@@ -75,8 +75,8 @@ impl<F: Flash> Store<F> {
 
     // Whether the store is formatted, and its flash as its maps say.
     pub(crate) fn is_ready(&self) -> bool
-        ensures is { result ≡ is_some (state_in self.now.formatted (state_of self.now.maps (F.Flash.card self.now.flash))) }
-        ensures sound { Sound (F.Flash.card self.now.flash) }
+        ensures is { result ≡ is_some (state_in self.now.formatted (state_of self.now.maps (F.card self.now.flash))) }
+        ensures sound { Sound (F.card self.now.flash) }
     {
         let agreed = agrees(&self.flash, &self.maps);
         self.formatted && agreed
@@ -84,7 +84,7 @@ impl<F: Flash> Store<F> {
 
     // The plan, once there is one.
     pub fn plan(&self) -> Option<Plan>
-        ensures { result ≡ plan_in (state_in self.now.formatted (state_of self.now.maps (F.Flash.card self.now.flash))) }
+        ensures { result ≡ plan_in (state_in self.now.formatted (state_of self.now.maps (F.card self.now.flash))) }
     {
         if !self.is_ready() {
             return None;
@@ -94,7 +94,7 @@ impl<F: Flash> Store<F> {
 
     // Where a page is held: the region, the flash block and its page.
     pub fn locate(&self, block: LogicalBlock, page: usize) -> Option<(Region, PhysicalBlock, usize)>
-        ensures { found_as result ≡ held_in (state_in self.now.formatted (state_of self.now.maps (F.Flash.card self.now.flash))) block.0 page }
+        ensures { found_as result ≡ held_in (state_in self.now.formatted (state_of self.now.maps (F.card self.now.flash))) block.0 page }
     {
         if !self.is_ready() {
             return None;

@@ -1,7 +1,7 @@
 // Which block garbage collection takes next.
 ghost use Rattle.std.specs.Prelude.{◌≡◌, ℕ, ◌<◌, length, slice_index_or};
 ghost use Rattle.std.specs.List.{range_with_len};
-ghost use Rattle.rules.specs.Choice.{greatest as greatestBy};
+ghost use Rattle.rules.specs.Choice.{greatest as greatest_by};
 ghost use Rattle.rules.specs.State.{deads, share_of};
 ghost use Rattle.store.specs.Places.{block_in};
 ghost use Rattle.store.specs.View.{table_of};
@@ -28,7 +28,7 @@ impl Counted for Share {
 impl Maps {
     // The block of the page-mapped region with the most dead slots, the lowest on a tie.
     pub(crate) fn victim(&self) -> Option<usize>
-        ensures { result ≡ greatestBy deads (table_of self.now.plan self.now.table) }
+        ensures { result ≡ greatest_by deads (table_of self.now.plan self.now.table) }
     {
         greatest(&self.table[0..self.plan.region as usize])
     }
@@ -53,7 +53,7 @@ impl Maps {
 
     // The data block with the most live slots in the page-mapped region, the lowest on a tie.
     pub(crate) fn fullest(&self) -> Option<LogicalBlock>
-        ensures { block_in result ≡ greatestBy (share_of (table_of self.now.plan self.now.table)) (range_with_len 0 self.now.plan.data) }
+        ensures { block_in result ≡ greatest_by (share_of (table_of self.now.plan self.now.table)) (range_with_len 0 self.now.plan.data) }
     {
         let shares = self.shares();
         match greatest(&shares[0..self.plan.data as usize]) {

@@ -6,7 +6,7 @@ use flash::device::Flash;
 
 // Whether some block below a number has fewer than 128 erases left, which one call may need.
 pub(crate) fn near_worn<F: Flash>(flash: &F, blocks: u16) -> bool
-    ensures { result ≡ near_worn blocks (card flash.now) }
+    ensures { result ≡ near_worn blocks (F.card flash.now) }
 {
     let endurance = u64::from(flash.geometry().endurance);
     for number in 0..blocks {

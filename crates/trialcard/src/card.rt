@@ -26,7 +26,7 @@ const PLAN: Plan = Plan {
 
 // Formats a flash by the plan, carries out a work list on it and writes the answers.
 pub(crate) fn run_on<F: Flash + Drop>(flash: F, list: &[u8], answers: &mut [u8]) -> Ended
-    ensures { F.Flash.card flash ≡ trial_chip → RanOn list.now answers.old answers.new result }
+    ensures { F.card flash ≡ trial_chip → RanOn list.now answers.old answers.new result }
 {
     let mut store = Store::new(flash);
     let _ = store.format(PLAN);

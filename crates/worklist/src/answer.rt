@@ -1,6 +1,6 @@
 ghost use Rattle.std.specs.Prelude.{◌≡◌, ◌+◌, ◌≤◌, length};
 ghost use borrow.Rule.Slice.PartMut.{put_mid};
-ghost use Rattle.rules.specs.Calls.{refused as refusedWith, done as doneWith};
+ghost use Rattle.rules.specs.Calls.{refused as refused_with, done as done_with};
 ghost use Rattle.store.specs.Calls.{report_of, way_in};
 ghost use Rattle.store.specs.Numbers.{number_of};
 ghost use Rattle.worklist.specs.Answers.{fields_for, fields_bytes, fields_in, Packs};
@@ -53,7 +53,7 @@ impl AnswerRecord {
 
     // The answer to a record that is refused.
     pub(crate) fn refused(kind: Kind, refusal: StoreRefusal) -> AnswerRecord
-        ensures is { result ≡ fields_for (kind_number kind) (refusedWith (number_of refusal)) }
+        ensures is { result ≡ fields_for (kind_number kind) (refused_with (number_of refusal)) }
         ensures packs { Packs result }
     {
         AnswerRecord {
@@ -69,7 +69,7 @@ impl AnswerRecord {
     // The answer to a record that is carried out and reports so.
     pub(crate) fn done(kind: Kind, report: Report) -> AnswerRecord
         requires { Small report }
-        ensures is { result ≡ fields_for (kind_number kind) (doneWith (report_of report)) }
+        ensures is { result ≡ fields_for (kind_number kind) (done_with (report_of report)) }
         ensures packs { Packs result }
     {
         AnswerRecord {

@@ -1,7 +1,7 @@
 // Carrying out one record: the call that it asks for is made, and its answer is written.
 ghost use Rattle.std.specs.Prelude.{◌≡◌, ℕ, ◌+◌, ◌≤◌, List, length};
 ghost use borrow.Rule.Slice.PartMut.{put_mid};
-ghost use Rattle.rules.specs.Calls.{flush as flushCall, read as readCall, discard as discardCall, idle as idleCall, refused as refusedWith};
+ghost use Rattle.rules.specs.Calls.{flush as flush_call, read as read_call, discard as discard_call, idle as idle_call, refused as refused_with};
 ghost use Rattle.store.specs.Calls.{state_in, state_after, answer_in, way_in};
 ghost use Rattle.store.specs.Numbers.{number_of};
 ghost use Rattle.store.specs.State.{state_of};
@@ -26,7 +26,7 @@ use store::store::Store;
 fn refuse(answers: &mut [u8], at: usize, kind: Kind, refusal: StoreRefusal) -> Step
     requires { at + 4 ≤ length answers.old }
     ensures is { result ≡ record { written = 4; erases = 0; large = 0; small = 0 } }
-    ensures wrote { answers.new ≡ put_mid at 4 answers.old (answered (kind_number kind) (refusedWith (number_of refusal))) }
+    ensures wrote { answers.new ≡ put_mid at 4 answers.old (answered (kind_number kind) (refused_with (number_of refusal))) }
 {
     put_answer(answers, at, AnswerRecord::refused(kind, refusal));
     Step {
@@ -59,9 +59,9 @@ fn carry_flush<F: Flash>(
     area: &mut [u8],
 ) -> Step
     requires { at + 4 ≤ length answers.old }
-    ensures told { Told (flushCall block.0 pages.0 bytes.now (length area.old)) (answer_in (state_in store.old.formatted (state_of store.old.maps (F.Flash.card store.old.flash))) (flushCall block.0 pages.0 bytes.now (length area.old))) (state_in store.old.formatted (state_of store.old.maps (F.Flash.card store.old.flash))) at answers.old answers.new area.old area.new result }
+    ensures told { Told (flush_call block.0 pages.0 bytes.now (length area.old)) (answer_in (state_in store.old.formatted (state_of store.old.maps (F.card store.old.flash))) (flush_call block.0 pages.0 bytes.now (length area.old))) (state_in store.old.formatted (state_of store.old.maps (F.card store.old.flash))) at answers.old answers.new area.old area.new result }
     ensures four { result.written ≡ 4 }
-    ensures leaves { state_in store.new.formatted (state_of store.new.maps (F.Flash.card store.new.flash)) ≡ state_after (state_in store.old.formatted (state_of store.old.maps (F.Flash.card store.old.flash))) (flushCall block.0 pages.0 bytes.now (length area.old)) }
+    ensures leaves { state_in store.new.formatted (state_of store.new.maps (F.card store.new.flash)) ≡ state_after (state_in store.old.formatted (state_of store.old.maps (F.card store.old.flash))) (flush_call block.0 pages.0 bytes.now (length area.old)) }
 {
     match store.flush(block, pages, bytes, area) {
         Ok(report) => {
@@ -88,7 +88,7 @@ fn carry_read<F: Flash>(
     size: usize,
 ) -> Step
     requires { at + (4 + size) ≤ length answers.old }
-    ensures told { (area : List ℕ) → Told (readCall block.0 page size) (answer_in (state_in store.now.formatted (state_of store.now.maps (F.Flash.card store.now.flash))) (readCall block.0 page size)) (state_in store.now.formatted (state_of store.now.maps (F.Flash.card store.now.flash))) at answers.old answers.new area area result }
+    ensures told { (area : List ℕ) → Told (read_call block.0 page size) (answer_in (state_in store.now.formatted (state_of store.now.maps (F.card store.now.flash))) (read_call block.0 page size)) (state_in store.now.formatted (state_of store.now.maps (F.card store.now.flash))) at answers.old answers.new area area result }
     ensures within { result.written ≤ 4 + size }
 {
     let start = at + 4;
@@ -121,9 +121,9 @@ fn carry_discard<F: Flash>(
     at: usize,
 ) -> Step
     requires { at + 4 ≤ length answers.old }
-    ensures told { (area : List ℕ) → Told (discardCall block.0 pages.0) (answer_in (state_in store.old.formatted (state_of store.old.maps (F.Flash.card store.old.flash))) (discardCall block.0 pages.0)) (state_in store.old.formatted (state_of store.old.maps (F.Flash.card store.old.flash))) at answers.old answers.new area area result }
+    ensures told { (area : List ℕ) → Told (discard_call block.0 pages.0) (answer_in (state_in store.old.formatted (state_of store.old.maps (F.card store.old.flash))) (discard_call block.0 pages.0)) (state_in store.old.formatted (state_of store.old.maps (F.card store.old.flash))) at answers.old answers.new area area result }
     ensures four { result.written ≡ 4 }
-    ensures leaves { state_in store.new.formatted (state_of store.new.maps (F.Flash.card store.new.flash)) ≡ state_after (state_in store.old.formatted (state_of store.old.maps (F.Flash.card store.old.flash))) (discardCall block.0 pages.0) }
+    ensures leaves { state_in store.new.formatted (state_of store.new.maps (F.card store.new.flash)) ≡ state_after (state_in store.old.formatted (state_of store.old.maps (F.card store.old.flash))) (discard_call block.0 pages.0) }
 {
     match store.discard(block, pages) {
         Ok(()) => {
@@ -153,9 +153,9 @@ fn carry_idle<F: Flash>(
     area: &mut [u8],
 ) -> Step
     requires { at + 4 ≤ length answers.old }
-    ensures told { Told (idleCall (length area.old)) (answer_in (state_in store.old.formatted (state_of store.old.maps (F.Flash.card store.old.flash))) (idleCall (length area.old))) (state_in store.old.formatted (state_of store.old.maps (F.Flash.card store.old.flash))) at answers.old answers.new area.old area.new result }
+    ensures told { Told (idle_call (length area.old)) (answer_in (state_in store.old.formatted (state_of store.old.maps (F.card store.old.flash))) (idle_call (length area.old))) (state_in store.old.formatted (state_of store.old.maps (F.card store.old.flash))) at answers.old answers.new area.old area.new result }
     ensures four { result.written ≡ 4 }
-    ensures leaves { state_in store.new.formatted (state_of store.new.maps (F.Flash.card store.new.flash)) ≡ state_after (state_in store.old.formatted (state_of store.old.maps (F.Flash.card store.old.flash))) (idleCall (length area.old)) }
+    ensures leaves { state_in store.new.formatted (state_of store.new.maps (F.card store.new.flash)) ≡ state_after (state_in store.old.formatted (state_of store.old.maps (F.card store.old.flash))) (idle_call (length area.old)) }
 {
     match store.idle_round(area) {
         Ok(report) => {
@@ -181,9 +181,9 @@ pub(crate) fn carry<F: Flash>(
     area: &mut [u8],
 ) -> Step
     requires { at + room_for size (item_of work) ≤ length answers.old }
-    ensures told { Told (call_for size (length area.old) (item_of work.entry)) (answer_in (state_in store.old.formatted (state_of store.old.maps (F.Flash.card store.old.flash))) (call_for size (length area.old) (item_of work.entry))) (state_in store.old.formatted (state_of store.old.maps (F.Flash.card store.old.flash))) at answers.old answers.new area.old area.new result }
+    ensures told { Told (call_for size (length area.old) (item_of work.entry)) (answer_in (state_in store.old.formatted (state_of store.old.maps (F.card store.old.flash))) (call_for size (length area.old) (item_of work.entry))) (state_in store.old.formatted (state_of store.old.maps (F.card store.old.flash))) at answers.old answers.new area.old area.new result }
     ensures within { result.written ≤ room_for size (item_of work.entry) }
-    ensures leaves { state_in store.new.formatted (state_of store.new.maps (F.Flash.card store.new.flash)) ≡ state_after (state_in store.old.formatted (state_of store.old.maps (F.Flash.card store.old.flash))) (call_for size (length area.old) (item_of work.entry)) }
+    ensures leaves { state_in store.new.formatted (state_of store.new.maps (F.card store.new.flash)) ≡ state_after (state_in store.old.formatted (state_of store.old.maps (F.card store.old.flash))) (call_for size (length area.old) (item_of work.entry)) }
 {
     match work {
         Record::Flush {

@@ -52,12 +52,12 @@ pub fn run<F: Flash>(
     answers: &mut [u8],
     area: &mut [u8],
 ) -> Ended
-    ensures tells { result ≡ ended_as (state_in store.old.formatted (state_of store.old.maps (F.Flash.card store.old.flash))) (run_of list.now (F.Flash.card store.old.flash).shape.size (length answers.old) (state_in store.old.formatted (state_of store.old.maps (F.Flash.card store.old.flash))) area.old) }
-    ensures leaves { state_in store.new.formatted (state_of store.new.maps (F.Flash.card store.new.flash)) ≡ (run_of list.now (F.Flash.card store.old.flash).shape.size (length answers.old) (state_in store.old.formatted (state_of store.old.maps (F.Flash.card store.old.flash))) area.old).done.state }
-    ensures answered { answers.new ≡ answers_after (run_of list.now (F.Flash.card store.old.flash).shape.size (length answers.old) (state_in store.old.formatted (state_of store.old.maps (F.Flash.card store.old.flash))) area.old) answers.old }
-    ensures clears { area.new ≡ (run_of list.now (F.Flash.card store.old.flash).shape.size (length answers.old) (state_in store.old.formatted (state_of store.old.maps (F.Flash.card store.old.flash))) area.old).done.area }
-    ensures follows { Followed (state_in store.old.formatted (state_of store.old.maps (F.Flash.card store.old.flash))) (run_of list.now (F.Flash.card store.old.flash).shape.size (length answers.old) (state_in store.old.formatted (state_of store.old.maps (F.Flash.card store.old.flash))) area.old).done }
-    ensures bounded { Bounded (state_in store.old.formatted (state_of store.old.maps (F.Flash.card store.old.flash))) result }
+    ensures tells { result ≡ ended_as (state_in store.old.formatted (state_of store.old.maps (F.card store.old.flash))) (run_of list.now (F.card store.old.flash).shape.size (length answers.old) (state_in store.old.formatted (state_of store.old.maps (F.card store.old.flash))) area.old) }
+    ensures leaves { state_in store.new.formatted (state_of store.new.maps (F.card store.new.flash)) ≡ (run_of list.now (F.card store.old.flash).shape.size (length answers.old) (state_in store.old.formatted (state_of store.old.maps (F.card store.old.flash))) area.old).done.state }
+    ensures answered { answers.new ≡ answers_after (run_of list.now (F.card store.old.flash).shape.size (length answers.old) (state_in store.old.formatted (state_of store.old.maps (F.card store.old.flash))) area.old) answers.old }
+    ensures clears { area.new ≡ (run_of list.now (F.card store.old.flash).shape.size (length answers.old) (state_in store.old.formatted (state_of store.old.maps (F.card store.old.flash))) area.old).done.area }
+    ensures follows { Followed (state_in store.old.formatted (state_of store.old.maps (F.card store.old.flash))) (run_of list.now (F.card store.old.flash).shape.size (length answers.old) (state_in store.old.formatted (state_of store.old.maps (F.card store.old.flash))) area.old).done }
+    ensures bounded { Bounded (state_in store.old.formatted (state_of store.old.maps (F.card store.old.flash))) result }
 {
     let mut total = Ended {
         number: 0,
