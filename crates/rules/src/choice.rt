@@ -13,7 +13,7 @@ pub trait Counted {
 
 // The place of the record with the greatest count, the lowest place on a tie. None if there is no record.
 pub fn greatest<T: Counted>(records: &[T]) -> Option<usize>
-    ensures { result ≡ greatest_by tally records.now }
+    ensures { result ≡ greatest_by T.tally records.now }
 {
     if records.len() == 0 {
         return None;
