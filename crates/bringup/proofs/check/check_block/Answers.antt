@@ -2,15 +2,15 @@ use Rattle.std.proofs.lemmas.Result.{MatchResult-weaker}
 use Rattle.bringup.proofs.CheckLaws.{erased_ready, erased_first}
 use Rattle.bringup.proofs.check.check_block.Goals as goal
 
-pub pattern-block-requires-in-ErasedFirst : goal.pattern-block-requires-in-ErasedFirst
-pattern-block-requires-in-ErasedFirst g c =
-    let done = c.in-ok-erase.ensures in
+pub pattern_block-requires-in-ErasedFirst : goal.pattern_block-requires-in-ErasedFirst
+pattern_block-requires-in-ErasedFirst g c =
+    let done = c.in_ok-erase.ensures in
     erased_ready (g.F.Flash.card c.args.flash.now) (g.F.Flash.card c.erase.new.self) c.args.block.0 c.requires.0 done.0 done.1
 
-pub returns-in-ok-erase : goal.returns-in-ok-erase
-returns-in-ok-erase g c =
-    let done = c.in-ok-erase.ensures in
+pub returns-in_ok-erase : goal.returns-in_ok-erase
+returns-in_ok-erase g c =
+    let done = c.in_ok-erase.ensures in
     let first = erased_first (g.F.Flash.card c.args.flash.now) (g.F.Flash.card c.erase.new.self) c.args.block.0 c.requires.0 done.0 done.1 in
-    MatchResult-weaker c.pattern-block-in-ErasedFirst.result c.pattern-block-in-ErasedFirst.ensures
+    MatchResult-weaker c.pattern_block-in-ErasedFirst.result c.pattern_block-in-ErasedFirst.ensures
     (λ wrong h. (h.0, first c.args.outcome _ c.in-ErasedFirst.is h.1))
     (λ e h. h)

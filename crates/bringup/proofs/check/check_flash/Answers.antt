@@ -8,8 +8,8 @@ pub loop-number-init : goal.loop-number-init
 unfolding checked_below noted_below summary_below
 loop-number-init g c = (refl, refl, refl)
 
-pub check-block-requires : goal.check-block-requires
-check-block-requires g c =
+pub check_block-requires : goal.check_block-requires
+check_block-requires g c =
     let k = g.F.Flash.card c.args.flash.now in
     let is = c.geometry-geometry.ensures.is in
     let h : c.loop-number.number < block_count k = omega (arith, ap (λ x. x.blocks) is) in
@@ -35,7 +35,7 @@ loop-number-preserved g c =
     let done = c.in-Ok.ensures in
     let o = c.outcome-outcome.result in
     let w = c.outcome-outcome.ensures in (
-      checked_more k d (g.F.Flash.card c.check-block.new.flash) n o inv.0 w done.1,
+      checked_more k d (g.F.Flash.card c.check_block.new.flash) n o inv.0 w done.1,
       noted_more k d d n o inv.0 w _ _ inv.1,
       added_more k d d n o inv.0 w _ _ _ _ inv.2 (ap (λ x. x.pages) c.geometry-geometry.ensures.is) done.0 c.with-summary.ensures,
     )

@@ -7,7 +7,7 @@ use Rattle.bringup.proofs.pattern.fill_pattern.Goals as goal
 pub loop-place-preserved : goal.loop-place-preserved
 loop-place-preserved c =
     let h : c.loop-place.place < length c.loop-place.into = omega arith in
-    rw c.pattern-byte.ensures (fill_by_more (pattern_byte c.args.block.0 c.args.page) _ _ 0 h c.loop-place.invariant)
+    rw c.pattern_byte.ensures (fill_by_more (pattern_byte c.args.block.0 c.args.page) _ _ 0 h c.loop-place.invariant)
 
 pub returns : goal.returns
 unfolding pattern

@@ -5,8 +5,8 @@ use Rattle.chips.proofs.image.header_at.Goals as goal
 
 pub returns : goal.returns
 returns c =
-    let word = header_read c.args.geometry c.args.memory.now c.args.block.0 _ _ c.block-start-at.ensures c.from-be-bytes.ensures in
-    let parts = c.from-word.ensures in
+    let word = header_read c.args.geometry c.args.memory.now c.args.block.0 _ _ c.block_start-at.ensures c.from_be_bytes.ensures in
+    let parts = c.from_word.ensures in
     record {
       floor = parts.floor ∙ ap floor_of word;
       erases = parts.erases ∙ ap count_of word;

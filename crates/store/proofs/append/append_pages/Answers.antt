@@ -10,7 +10,7 @@ use Rattle.rules.proofs.SetLaws.{pages_le}
 use Rattle.store.proofs.FillLaws.{part_size}
 use Rattle.store.proofs.AppendLaws.{page_end, bytes_few, next_stores, appended_put, appended_skip}
 use Rattle.store.proofs.append.append_pages.Goals as goal
-use Rattle.store.proofs.append.append_pages.Goals.{then-has+in-ok-store-page, else-has}
+use Rattle.store.proofs.append.append_pages.Goals.{then-has+in_ok-store_page, else-has}
 
 -- the next page lies within the data
 ends :
@@ -22,25 +22,25 @@ pub loop-page-init : goal.loop-page-init
 unfolding appended pages_in
 loop-page-init g c = (refl, refl)
 
-pub overflow-mul-start : goal.overflow-mul-start
-overflow-mul-start g c =
+pub overflow_mul-start : goal.overflow_mul-start
+overflow_mul-start g c =
     let s = state_of c.args.maps.now (g.F.Flash.card c.args.flash.now) in
     let e = ends s c.args.block.0 c.args.set.0 c.loop-page.page c.loop-page.taken c.geometry-size.result.size c.args.bytes.now c.requires (ap (λ x. x.size) c.geometry-size.ensures.is) c.loop-page.invariant.1 (sym c.if-has.ensures) (omega (arith, c.loop-page-test.true)) in
     Fits-below {n = 262144} tt (omega (arith, bytes_few s c.args.block.0 c.args.set.0 c.args.bytes.now c.requires))
 
-pub overflow-add-start : goal.overflow-add-start
-overflow-add-start g c =
+pub overflow_add-start : goal.overflow_add-start
+overflow_add-start g c =
     let s = state_of c.args.maps.now (g.F.Flash.card c.args.flash.now) in
     let e = ends s c.args.block.0 c.args.set.0 c.loop-page.page c.loop-page.taken c.geometry-size.result.size c.args.bytes.now c.requires (ap (λ x. x.size) c.geometry-size.ensures.is) c.loop-page.invariant.1 (sym c.if-has.ensures) (omega (arith, c.loop-page-test.true)) in
     Fits-below {n = 262144} tt (omega (arith, bytes_few s c.args.block.0 c.args.set.0 c.args.bytes.now c.requires))
 
-pub slice-bounds-store-page-end : goal.slice-bounds-store-page-end
-slice-bounds-store-page-end g c =
+pub slice_bounds-store_page-end : goal.slice_bounds-store_page-end
+slice_bounds-store_page-end g c =
     let s = state_of c.args.maps.now (g.F.Flash.card c.args.flash.now) in
     ends s c.args.block.0 c.args.set.0 c.loop-page.page c.loop-page.taken c.geometry-size.result.size c.args.bytes.now c.requires (ap (λ x. x.size) c.geometry-size.ensures.is) c.loop-page.invariant.1 (sym c.if-has.ensures) (omega (arith, c.loop-page-test.true))
 
-pub store-page-requires : goal.store-page-requires
-store-page-requires g c =
+pub store_page-requires : goal.store_page-requires
+store_page-requires g c =
     let s = state_of c.args.maps.now (g.F.Flash.card c.args.flash.now) in
     let size = c.geometry-size.result.size in
     let is = ap (λ x. x.size) c.geometry-size.ensures.is in
@@ -54,8 +54,8 @@ store-page-requires g c =
     (omega (arith, c.loop-page-test.true)) q
     (ap (λ (n : ℕ). length (take n (drop (taken * size) bytes))) z ∙ part_size taken size bytes e ∙ is)
 
-pub overflow-add-taken : goal.overflow-add-taken
-overflow-add-taken g c =
+pub overflow_add-taken : goal.overflow_add-taken
+overflow_add-taken g c =
     Fits-below {n = 65} tt (omega (arith, c.loop-page.invariant.1, pages_le c.loop-page.page c.args.set.0, c.loop-page-test.true, c.args.maps.now.small.2))
 
 pub loop-page-preserved : goal.loop-page-preserved
@@ -71,11 +71,11 @@ loop-page-preserved g c =
     let n = c.loop-page.page in
     let inv = c.loop-page.invariant in
     elim c.if-has.branch [
-      | then-has+in-ok-store-page w ↦
+      | then-has+in_ok-store_page w ↦
           let z : taken * size + size - taken * size ≡ size = omega arith in
           rw (w.flash-is, w.maps-is, w.taken-is)
           (appended_put s d set bytes c.requires (state_of c.loop-page.maps k) _ n taken size (take (taken * size + size - taken * size) (drop (taken * size) bytes)) inv.0 is inv.1 (sym w.if-has.ensures)
-          (ap (λ (j : ℕ). take j (drop (taken * size) bytes)) z) w.in-ok-store-page.ensures)
+          (ap (λ (j : ℕ). take j (drop (taken * size) bytes)) z) w.in_ok-store_page.ensures)
       | else-has w ↦
           rw (w.flash-is, w.maps-is, w.taken-is)
           (appended_skip s d set bytes c.requires (state_of c.loop-page.maps k) n taken size inv.0 inv.1 (sym w.if-has.ensures))

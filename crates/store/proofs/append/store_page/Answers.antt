@@ -3,12 +3,12 @@ use Rattle.store.proofs.AppendLaws.{open_inside, slot_room, store_accepted, stor
 use Rattle.store.proofs.MapsLaws.{row_shaped}
 use Rattle.store.proofs.append.store_page.Goals as goal
 
-pub returns-in-err-program : goal.returns-in-err-program
-returns-in-err-program g c =
+pub returns-in_err-program : goal.returns-in_err-program
+returns-in_err-program g c =
     let m = c.args.maps.now in
     let k = g.F.Flash.card c.args.flash.now in
-    let ok = store_accepted m k c.args.block.0 c.args.page c.args.bytes.now c.requires c.in-Some.place (sym c.in-Some.ensures) _ _ c.region-block.ensures refl in
-    let other = c.in-err-program.ensures.0 in
+    let ok = store_accepted m k c.args.block.0 c.args.page c.args.bytes.now c.requires c.in-Some.place (sym c.in-Some.ensures) _ _ c.region_block.ensures refl in
+    let other = c.in_err-program.ensures.0 in
     absurd (let z : ◌≡◌ {A = ℕ} 0 1 = cc in omega arith)
 
 pub append-requires : goal.append-requires
@@ -20,15 +20,15 @@ append-requires g c =
       omega (arith, slot_room m k c.args.block.0 c.args.page c.args.bytes.now c.requires c.in-Some.place found, m.small.2),
     )
 
-pub invariant-of-maps : goal.invariant-of-maps
-invariant-of-maps g c =
+pub invariant_of-maps : goal.invariant_of-maps
+invariant_of-maps g c =
     let m = c.args.maps.now in
     let k = g.F.Flash.card c.args.flash.now in
-    let whole = store_whole m k c.args.block.0 c.args.page c.args.bytes.now c.requires c.in-Some.place (sym c.in-Some.ensures) _ _ c.region-block.ensures refl (g.F.Flash.card c.program.new.self) c.in-ok-program.ensures.1 c.append.new.self c.append.ensures.slots c.append.ensures.shaped in
+    let whole = store_whole m k c.args.block.0 c.args.page c.args.bytes.now c.requires c.in-Some.place (sym c.in-Some.ensures) _ _ c.region_block.ensures refl (g.F.Flash.card c.program.new.self) c.in_ok-program.ensures.1 c.append.new.self c.append.ensures.slots c.append.ensures.shaped in
     ((m.sizes.0, length-set _ _ _ ∙ m.sizes.1), (m.limits, (m.small, (m.spare, (∣ whole ∣₁, tt)))))
 
 pub returns : goal.returns
 returns g c =
     let m = c.args.maps.now in
     let k = g.F.Flash.card c.args.flash.now in
-    store_is m k c.args.block.0 c.args.page c.args.bytes.now c.requires c.in-Some.place (sym c.in-Some.ensures) _ _ c.region-block.ensures refl (g.F.Flash.card c.program.new.self) c.in-ok-program.ensures.1 c.append.new.self c.append.ensures.slots
+    store_is m k c.args.block.0 c.args.page c.args.bytes.now c.requires c.in-Some.place (sym c.in-Some.ensures) _ _ c.region_block.ensures refl (g.F.Flash.card c.program.new.self) c.in_ok-program.ensures.1 c.append.new.self c.append.ensures.slots

@@ -14,5 +14,5 @@ clear-requires g c =
 pub loop-number-preserved : goal.loop-number-preserved
 loop-number-preserved g c =
     let inv = c.loop-number.invariant in
-    let done = c.in-ok-erases.ensures in
+    let done = c.in_ok-erases.ensures in
     clears_more (g.F.Flash.card c.args.flash.now) (g.F.Flash.card c.loop-number.flash) (g.F.Flash.card c.clear.new.flash) c.loop-number.number _ _ inv.1 inv.0 inv.2 done.0 done.1

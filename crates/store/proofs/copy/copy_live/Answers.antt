@@ -4,7 +4,7 @@ use Rattle.store.specs.Moves.{CanCopy}
 use Rattle.store.proofs.SlotLaws.{slot_at, slots_length}
 use Rattle.store.proofs.CopyLaws.{copied_none, copied_dead, copied_live, copied_all, can_copy_slots}
 use Rattle.store.proofs.copy.copy_live.Goals as goal
-use Rattle.store.proofs.copy.copy_live.Goals.{in-Live+in-ok-read+in-ok-program, in-default}
+use Rattle.store.proofs.copy.copy_live.Goals.{in-Live+in_ok-read+in_ok-program, in_default}
 
 pub loop-slot-init : goal.loop-slot-init
 loop-slot-init g c =
@@ -26,16 +26,16 @@ loop-slot-preserved g c =
     let h : i < length (slots_of b) = omega arith in
     let inv = c.loop-slot.invariant in
     elim c.match-entry.branch [
-      | in-Live+in-ok-read+in-ok-program w ↦
+      | in-Live+in_ok-read+in_ok-program w ↦
           rw (w.flash-is, w.copies-is) (
             w.append.ensures.shaped,
             copied_live k₀ (slots_of b) from to _ can i k _ _ h inv.1 _ _ w.read.new.into (g.F.Flash.card w.program.new.self) _ _
                 (slot_at b i _ _ c.requires.0 c.loop-slot-test.true w.in-Live.is)
-                w.in-ok-read.ensures.1 w.in-ok-program.ensures.1 w.append.ensures.slots w.append.ensures.used,
+                w.in_ok-read.ensures.1 w.in_ok-program.ensures.1 w.append.ensures.slots w.append.ensures.used,
           )
-      | in-default w ↦
+      | in_default w ↦
           rw (w.flash-is, w.copies-is)
-          (inv.0, copied_dead k₀ (slots_of b) from to _ can i k _ _ h inv.1 (slot_at b i _ _ c.requires.0 c.loop-slot-test.true w.in-default.is))
+          (inv.0, copied_dead k₀ (slots_of b) from to _ can i k _ _ h inv.1 (slot_at b i _ _ c.requires.0 c.loop-slot-test.true w.in_default.is))
     ]
 
 pub returns : goal.returns

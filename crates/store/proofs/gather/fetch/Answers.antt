@@ -9,19 +9,19 @@ pub returns-then-has : goal.returns-then-has
 returns-then-has g c =
     let k = g.F.Flash.card c.args.flash.now in
     let rest = c.args.rest.now in
-    let is = c.copy-from-slice.ensures.after ∙ front (length c.args.into.now) k.shape.size rest c.requires.bytes in
+    let is = c.copy_from_slice.ensures.after ∙ front (length c.args.into.now) k.shape.size rest c.requires.bytes in
     let own = own_there (has c.args.set.0 c.args.page) (take k.shape.size rest) (sym c.if-has.ensures) in
     new_own (state_of c.args.maps.now k) c.args.block.0 _ c.args.page _ (own ∙ ap (λ (x : List ℕ). Some x) (sym is))
 
-pub returns-in-default : goal.returns-in-default
-returns-in-default g c =
+pub returns-in_default : goal.returns-in_default
+returns-in_default g c =
     let k = g.F.Flash.card c.args.flash.now in
     let own = own_not (has c.args.set.0 c.args.page) (take k.shape.size c.args.rest.now) (sym c.if-has.ensures) in
-    new_held (state_of c.args.maps.now k) c.args.block.0 _ c.args.page None own (sym (c.in-default.ensures.held k))
+    new_held (state_of c.args.maps.now k) c.args.block.0 _ c.args.page None own (sym (c.in_default.ensures.held k))
 
 pub returns : goal.returns
 returns g c =
     let k = g.F.Flash.card c.args.flash.now in
     let own = own_not (has c.args.set.0 c.args.page) (take k.shape.size c.args.rest.now) (sym c.if-has.ensures) in
-    ap (λ (x : List ℕ). Some x) c.in-ok-read.ensures.1
+    ap (λ (x : List ℕ). Some x) c.in_ok-read.ensures.1
     ∙ new_held (state_of c.args.maps.now k) c.args.block.0 _ c.args.page _ own (sym (c.in-Some.ensures.held k))

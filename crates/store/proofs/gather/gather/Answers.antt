@@ -41,8 +41,8 @@ loop-page-init g c =
     let s = c.geometry-size.result.size in
     (rest_all s c.args.set.0 c.args.bytes.now, laid_none _ s c.args.area.now, refl)
 
-pub slice-bounds-into-end : goal.slice-bounds-into-end
-slice-bounds-into-end g c = place_in g c
+pub slice_bounds-into-end : goal.slice_bounds-into-end
+slice_bounds-into-end g c = place_in g c
 
 pub fetch-requires : goal.fetch-requires
 fetch-requires g c =
@@ -60,11 +60,11 @@ fetch-requires g c =
       own = λ h. omega (arith, own_in g here h);
     }
 
-pub slice-bounds-rest-count : goal.slice-bounds-rest-count
-slice-bounds-rest-count g c = own_in g (goal.at.slice-bounds-rest-count g c).In-loop-page (sym c.if-has.ensures)
+pub slice_bounds-rest-count : goal.slice_bounds-rest-count
+slice_bounds-rest-count g c = own_in g (goal.at.slice_bounds-rest-count g c).In-loop-page (sym c.if-has.ensures)
 
-pub slice-bounds-rest-start : goal.slice-bounds-rest-start
-slice-bounds-rest-start g c = slice-bounds-rest-count g c
+pub slice_bounds-rest-start : goal.slice_bounds-rest-start
+slice_bounds-rest-start g c = slice_bounds-rest-count g c
 
 pub loop-page-preserved : goal.loop-page-preserved
 loop-page-preserved g c =
@@ -77,14 +77,14 @@ loop-page-preserved g c =
     let row = gathered state c.args.block.0 (row_of s set bytes) in
     let area = c.loop-page.area in
     let part = c.fetch.new.into in
-    let there = c.in-ok-fetch.field-0 in
+    let there = c.in_ok-fetch.field-0 in
     let was = c.loop-page.pages.0 in
     let laid = c.loop-page.invariant.1 in
     let fits = place_in g here in
     let z : p * s + s - p * s ≡ s = omega arith in
     let len : length part ≡ s = c.fetch.auto.into ∙ length-between area (p * s) (p * s + s) fits ∙ z in
     let page : page_if there part ≡ row p =
-    c.in-ok-fetch.ensures
+    c.in_ok-fetch.ensures
     ∙ new_first s set bytes state c.args.block.0 _ p c.loop-page.rest.now (size_is g here) c.loop-page.invariant.0 in
     let added : Added was p there c.if-branch.pages.0 =
     elim c.if-branch.branch [

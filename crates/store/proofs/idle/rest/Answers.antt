@@ -22,8 +22,8 @@ pub returns : goal.returns
 returns g c =
     let k = g.F.Flash.card c.args.flash.now in
     let s = state_of c.args.maps.now k in
-    let round = c.in-ok-tally.ensures in
+    let round = c.in_ok-tally.ensures in
     record {
-      done = works s _ c.requires c.in-ok-tally.tally _ (omega (arith, c.if-free-maps.false, c.free.ensures.is k)) round.done.0 round.done.1;
+      done = works s _ c.requires c.in_ok-tally.tally _ (omega (arith, c.if-free-maps.false, c.free.ensures.is k)) round.done.0 round.done.1;
       beyond = round.beyond;
     }

@@ -4,17 +4,17 @@ use Rattle.rules.specs.Moves.{cleared, filled}
 use Rattle.store.specs.Moves.{row_in}
 use Rattle.store.proofs.FillLaws.{row_end, fill_starts, fill_skip, fill_put, fill_all, part_size, cleared_as}
 use Rattle.store.proofs.rewrite.write_block.Goals as goal
-use Rattle.store.proofs.rewrite.write_block.Goals.{then-has+in-ok-program, else-has}
+use Rattle.store.proofs.rewrite.write_block.Goals.{then-has+in_ok-program, else-has}
 
 pub loop-page-init : goal.loop-page-init
 unfolding filled
 loop-page-init g c =
     let k₀ = g.F.Flash.card c.args.flash.now in
-    (refl, fill_starts k₀ (g.F.Flash.card c.clear.new.flash) c.args.block.0 _ c.requires c.in-ok-erases.ensures.1)
+    (refl, fill_starts k₀ (g.F.Flash.card c.clear.new.flash) c.args.block.0 _ c.requires c.in_ok-erases.ensures.1)
 
-pub slice-bounds-program-end : goal.slice-bounds-program-end
-slice-bounds-program-end g c =
-    let shape = cleared_as (g.F.Flash.card c.args.flash.now) (g.F.Flash.card c.clear.new.flash) c.args.block.0 c.requires.inside c.in-ok-erases.ensures.1 in
+pub slice_bounds-program-end : goal.slice_bounds-program-end
+slice_bounds-program-end g c =
+    let shape = cleared_as (g.F.Flash.card c.args.flash.now) (g.F.Flash.card c.clear.new.flash) c.args.block.0 c.requires.inside c.in_ok-erases.ensures.1 in
     let pages = ap (λ x. x.pages) c.geometry-pages.ensures.is ∙ ap (λ x. x.pages) shape in
     let size = ap (λ x. x.size) c.geometry-size.ensures.is ∙ ap (λ x. x.size) shape in
     row_end c.loop-page.page c.geometry-pages.result.pages c.geometry-size.result.size _ c.loop-page-test.true (rw (pages, size) c.requires.area)
@@ -28,18 +28,18 @@ loop-page-preserved g c =
     let s = c.geometry-size.result.size in
     let area = c.args.area.now in
     let row = row_in c.args.set.0 s area in
-    let shape = cleared_as (g.F.Flash.card c.args.flash.now) k₁ b c.requires.inside c.in-ok-erases.ensures.1 in
+    let shape = cleared_as (g.F.Flash.card c.args.flash.now) k₁ b c.requires.inside c.in_ok-erases.ensures.1 in
     let pages = ap (λ x. x.pages) c.geometry-pages.ensures.is in
     let size = ap (λ x. x.size) c.geometry-size.ensures.is in
     let fits = row_end p c.geometry-pages.result.pages s (length area) c.loop-page-test.true (rw (pages ∙ ap (λ x. x.pages) shape, size ∙ ap (λ x. x.size) shape) c.requires.area) in
     let inv = c.loop-page.invariant in
     elim c.if-has.branch [
-      | then-has+in-ok-program w ↦
+      | then-has+in_ok-program w ↦
           let z : p * s + s - p * s ≡ s = omega arith in
           rw w.flash-is
           (fill_put k₁ b row p k inv.0 inv.1 (take s (drop (p * s) area)) (g.F.Flash.card w.program.new.self)
           (ap (λ (t : Bool). cond t (Some (take s (drop (p * s) area))) None) (sym w.if-has.ensures))
-          (w.in-ok-program.ensures.1 ∙ ap (λ (n : ℕ). programmed k b p (take n (drop (p * s) area))) z)
+          (w.in_ok-program.ensures.1 ∙ ap (λ (n : ℕ). programmed k b p (take n (drop (p * s) area))) z)
           (omega arith) (part_size p s area fits ∙ size))
       | else-has w ↦
           rw w.flash-is
@@ -50,7 +50,7 @@ pub returns : goal.returns
 returns g c =
     let k₀ = g.F.Flash.card c.args.flash.now in
     let k₁ = g.F.Flash.card c.clear.new.flash in
-    let done = c.in-ok-erases.ensures in
+    let done = c.in_ok-erases.ensures in
     let shape = cleared_as k₀ k₁ c.args.block.0 c.requires.inside done.1 in
     let pages = ap (λ x. x.pages) c.geometry-pages.ensures.is ∙ ap (λ x. x.pages) shape in
     let size = ap (λ x. x.size) c.geometry-size.ensures.is ∙ ap (λ x. x.size) shape in

@@ -11,8 +11,8 @@ rewrite-requires g c =
 pub returns : goal.returns
 returns g c =
     let s = state_of c.args.maps.now (g.F.Flash.card c.args.flash.now) in
-    let done = c.in-ok-erases.ensures.done in
+    let done = c.in_ok-erases.ensures.done in
     record {
       done = merge_round s _ c.in-Some.block.0 _ c.requires.1.1 (sym c.in-Some.ensures) done.0 (done.1 ∙ rewritten_none s c.in-Some.block.0 _);
-      beyond = c.in-ok-erases.ensures.beyond;
+      beyond = c.in_ok-erases.ensures.beyond;
     }

@@ -24,7 +24,7 @@ returns-then-floor-used g c =
     let m = c.args.maps.now in
     let k = g.F.Flash.card c.args.flash.now in
     let r = c.loop-place.place in
-    let here = c.floor.ensures ∙ ap (floor_at k) c.region-block.ensures in
+    let here = c.floor.ensures ∙ ap (floor_at k) c.region_block.ensures in
     record { sound = c.geometry-geometry.ensures.sound; is = sym (differs_floors (state_of m k) (floors_differ (state_of m k) m.plan.region r c.loop-place-test.true (λ e. c.if-floor-used.true (here ∙ e ∙ row_length m r c.loop-place-test.true)))) }
 
 pub loop-place-preserved : goal.loop-place-preserved
@@ -32,7 +32,7 @@ loop-place-preserved g c =
     let m = c.args.maps.now in
     let k = g.F.Flash.card c.args.flash.now in
     let r = c.loop-place.place in
-    let here = c.floor.ensures ∙ ap (floor_at k) c.region-block.ensures in
+    let here = c.floor.ensures ∙ ap (floor_at k) c.region_block.ensures in
     floors_more (state_of m k) r c.loop-place.invariant (sym here ∙ c.if-floor-used.false ∙ sym (row_length m r c.loop-place-test.true))
 
 pub returns : goal.returns

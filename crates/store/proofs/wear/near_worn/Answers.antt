@@ -9,8 +9,8 @@ loop-number-init g c = refl
 
 pub returns-then-count-endurance : goal.returns-then-count-endurance
 returns-then-count-endurance g c =
-    sym (near_found _ _ c.loop-number.number c.loop-number-test.true (omega (arith, c.if-count-endurance.true, c.erase-count.ensures, ap (λ x. x.endurance) c.geometry.ensures.is)))
+    sym (near_found _ _ c.loop-number.number c.loop-number-test.true (omega (arith, c.if-count-endurance.true, c.erase_count.ensures, ap (λ x. x.endurance) c.geometry.ensures.is)))
 
 pub loop-number-preserved : goal.loop-number-preserved
 loop-number-preserved g c =
-    far_more _ _ c.loop-number.invariant (omega (arith, c.if-count-endurance.false, c.erase-count.ensures, ap (λ x. x.endurance) c.geometry.ensures.is))
+    far_more _ _ c.loop-number.invariant (omega (arith, c.if-count-endurance.false, c.erase_count.ensures, ap (λ x. x.endurance) c.geometry.ensures.is))

@@ -3,5 +3,5 @@ use Rattle.trialcard.proofs.lines.push_line.Goals as goal
 
 pub returns : goal.returns
 returns c =
-    line_made c.args.answer c.args.page.now _ _ _ _ _ _ _ c.in-ok-push-str-2.ensures.bytes c.in-ok-push-page.ensures c.in-ok-push-str.ensures.bytes c.as-str.ensures.value
-    c.in-ok-fields.ensures.ok c.letter-letter.ensures
+    line_made c.args.answer c.args.page.now _ _ _ _ _ _ _ c.in_ok-push_str-2.ensures.bytes c.in_ok-push_page.ensures c.in_ok-push_str.ensures.bytes c.as_str.ensures.value
+    c.in_ok-fields.ensures.ok c.letter-letter.ensures

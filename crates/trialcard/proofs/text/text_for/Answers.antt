@@ -5,8 +5,8 @@ use Rattle.trialcard.proofs.text.text_for.Goals as goal
 pub returns-then-list-gt-LONGEST : goal.returns-then-list-gt-LONGEST
 returns-then-list-gt-LONGEST c = ?
 
-pub slice-bounds-push-lines-end : goal.slice-bounds-push-lines-end
-slice-bounds-push-lines-end c = ?
+pub slice_bounds-push_lines-end : goal.slice_bounds-push_lines-end
+slice_bounds-push_lines-end c = ?
 
 pub returns : goal.returns
 returns c = ?

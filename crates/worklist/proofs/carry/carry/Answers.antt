@@ -14,9 +14,9 @@ returns-in-Read g c =
     let is : item_of c.args.work ≡ read_of c.in-Read.block.0 c.in-Read.page = ap item_of c.in-Read.is in
     record {
       told =
-          carried_as (item_of c.args.work) _ is c.args.size n s c.args.at c.args.answers.now c.carry-read.new.answers c.args.area.now c.args.area.now c.carry-read.result
-          (c.carry-read.ensures.told c.args.area.now);
-      within = omega (arith, c.carry-read.ensures.within, ap (room_for c.args.size) is);
+          carried_as (item_of c.args.work) _ is c.args.size n s c.args.at c.args.answers.now c.carry_read.new.answers c.args.area.now c.args.area.now c.carry_read.result
+          (c.carry_read.ensures.told c.args.area.now);
+      within = omega (arith, c.carry_read.ensures.within, ap (room_for c.args.size) is);
       leaves = read_leaves s c.in-Read.block.0 c.in-Read.page c.args.size ∙ ap (λ (i : Item). state_after s (call_for c.args.size n i)) (sym is);
     }
 
@@ -28,8 +28,8 @@ returns-in-Discard g c =
     let is : item_of c.args.work ≡ discard_of c.in-Discard.block.0 c.in-Discard.pages.0 = ap item_of c.in-Discard.is in
     record {
       told =
-          carried_as (item_of c.args.work) _ is c.args.size n s c.args.at c.args.answers.now c.carry-discard.new.answers c.args.area.now c.args.area.now c.carry-discard.result
-          (c.carry-discard.ensures.told c.args.area.now);
-      within = omega (arith, c.carry-discard.ensures.four, ap (room_for c.args.size) is);
-      leaves = c.carry-discard.ensures.leaves ∙ ap (λ (i : Item). state_after s (call_for c.args.size n i)) (sym is);
+          carried_as (item_of c.args.work) _ is c.args.size n s c.args.at c.args.answers.now c.carry_discard.new.answers c.args.area.now c.args.area.now c.carry_discard.result
+          (c.carry_discard.ensures.told c.args.area.now);
+      within = omega (arith, c.carry_discard.ensures.four, ap (room_for c.args.size) is);
+      leaves = c.carry_discard.ensures.leaves ∙ ap (λ (i : Item). state_after s (call_for c.args.size n i)) (sym is);
     }

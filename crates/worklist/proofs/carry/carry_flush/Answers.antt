@@ -16,9 +16,9 @@ returns-in-Ok g c =
     let wide : c.args.pages.0 < 2 ^ 64 = search rules in
     record {
       told =
-          flush_told me.formatted (state_of me.maps (g.F.Flash.card me.flash)) c.args.at c.args.answers.now c.put-answer.new.answers c.args.area.now c.flush.new.area c.in-Ok.report c.done.result
-          c.args.block.0 c.args.pages.0 c.args.bytes.now c.group-counts-large.result wide c.in-Ok.ensures.tells c.in-Ok.ensures.clears c.done.ensures.is c.put-answer.ensures
-          c.group-counts-large.ensures (omega (arith, c.in-Ok.ensures.few.2));
+          flush_told me.formatted (state_of me.maps (g.F.Flash.card me.flash)) c.args.at c.args.answers.now c.put_answer.new.answers c.args.area.now c.flush.new.area c.in-Ok.report c.done.result
+          c.args.block.0 c.args.pages.0 c.args.bytes.now c.group_counts-large.result wide c.in-Ok.ensures.tells c.in-Ok.ensures.clears c.done.ensures.is c.put_answer.ensures
+          c.group_counts-large.ensures (omega (arith, c.in-Ok.ensures.few.2));
       four = refl;
       leaves = c.in-Ok.ensures.leaves;
     }

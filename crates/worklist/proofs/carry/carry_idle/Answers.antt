@@ -13,8 +13,8 @@ returns-in-Ok g c =
     let me = c.args.store.now in
     record {
       told =
-          idle_told me.formatted (state_of me.maps (g.F.Flash.card me.flash)) c.args.at c.args.answers.now c.put-answer.new.answers c.args.area.now c.idle_round.new.area c.in-Ok.report c.done.result
-          c.in-Ok.ensures.tells c.in-Ok.ensures.clears c.done.ensures.is c.put-answer.ensures;
+          idle_told me.formatted (state_of me.maps (g.F.Flash.card me.flash)) c.args.at c.args.answers.now c.put_answer.new.answers c.args.area.now c.idle_round.new.area c.in-Ok.report c.done.result
+          c.in-Ok.ensures.tells c.in-Ok.ensures.clears c.done.ensures.is c.put_answer.ensures;
       four = refl;
       leaves = c.in-Ok.ensures.leaves;
     }

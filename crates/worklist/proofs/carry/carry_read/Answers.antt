@@ -19,9 +19,9 @@ returns-in-Ok g c =
     let long : length (take (at + 4 + size - (at + 4)) (drop (at + 4) ys)) ≡ size = length-take-le (at + 4 + size - (at + 4)) (drop (at + 4) ys) (omega (arith, length-drop (at + 4) ys)) ∙ e in
     record {
       told = λ area.
-          read_told s c.args.block.0 c.args.page at size ys c.put-answer.new.answers c.read.new.into area (way_in (Some c.in-Ok.region)) c.done.result (omega arith)
+          read_told s c.args.block.0 c.args.page at size ys c.put_answer.new.answers c.read.new.into area (way_in (Some c.in-Ok.region)) c.done.result (omega arith)
           (c.read.auto.into ∙ long) (ap (λ n. answer_in s (read c.args.block.0 c.args.page n)) (sym long) ∙ c.in-Ok.ensures) c.done.ensures.is
-          (rw e at c.put-answer.ensures);
+          (rw e at c.put_answer.ensures);
       within = omega arith;
     }
 

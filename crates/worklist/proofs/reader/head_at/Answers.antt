@@ -9,19 +9,19 @@ returns-then-at-list c =
     elim c.then-at-list.branch [ then-at-list-via-then-at-list w ↦ omega arith | then-at-list-via-else-at-list+then-list-at-lt2 w ↦ omega arith ] in
     record { is = sym (head_short c.args.list.now c.args.at h); there = tt }
 
-pub returns-in-default : goal.returns-in-default
-returns-in-default c =
+pub returns-in_default : goal.returns-in_default
+returns-in_default c =
     record {
-      is = head_as c.args.list.now c.args.at c.from-be-bytes-word.result None _ (omega arith) c.from-be-bytes-word.ensures c.in-default.ensures refl;
+      is = head_as c.args.list.now c.args.at c.from_be_bytes-word.result None _ (omega arith) c.from_be_bytes-word.ensures c.in_default.ensures refl;
       there = tt;
     }
 
-pub returns-then-not-zeros-in : goal.returns-then-not-zeros-in
-returns-then-not-zeros-in c =
+pub returns-then-not-zeros_in : goal.returns-then-not-zeros_in
+returns-then-not-zeros_in c =
     record {
       is =
-          head_as c.args.list.now c.args.at c.from-be-bytes-word.result (Some c.in-Some.kind) _ (omega arith) c.from-be-bytes-word.ensures c.in-Some.ensures
-          (head_zeros c.in-Some.kind _ _ _ c.if-not-zeros-in.ensures);
+          head_as c.args.list.now c.args.at c.from_be_bytes-word.result (Some c.in-Some.kind) _ (omega arith) c.from_be_bytes-word.ensures c.in-Some.ensures
+          (head_zeros c.in-Some.kind _ _ _ c.if-not-zeros_in.ensures);
       there = tt;
     }
 
@@ -29,7 +29,7 @@ pub returns : goal.returns
 returns c =
     record {
       is =
-          head_as c.args.list.now c.args.at c.from-be-bytes-word.result (Some c.in-Some.kind) _ (omega arith) c.from-be-bytes-word.ensures c.in-Some.ensures
-          (head_zeros c.in-Some.kind _ _ _ c.if-not-zeros-in.ensures);
+          head_as c.args.list.now c.args.at c.from_be_bytes-word.result (Some c.in-Some.kind) _ (omega arith) c.from_be_bytes-word.ensures c.in-Some.ensures
+          (head_zeros c.in-Some.kind _ _ _ c.if-not-zeros_in.ensures);
       there = omega arith;
     }

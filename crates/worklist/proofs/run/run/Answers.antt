@@ -23,8 +23,8 @@ loop-taken-init g c =
     let none = underway_none c.args.list.now size s c.args.answers.now c.args.area.now in
     (c.new-reader.ensures.list, at.0, subst (λ n. Underway c.args.list.now size s c.args.answers.now c.args.area.now n _ s c.args.answers.now c.args.area.now) (sym at.1) none)
 
-pub returns-in-default : goal.returns-in-default
-returns-in-default g c =
+pub returns-in_default : goal.returns-in_default
+returns-in_default g c =
     let me = c.args.store.now in
     let xs = c.args.list.now in
     let s₀ = state_in me.formatted (state_of me.maps (g.F.Flash.card me.flash)) in
@@ -34,10 +34,10 @@ returns-in-default g c =
     let t = c.loop-taken.total in
     let size = c.geometry-size.result.size in
     let place = c.loop-taken.reader.place in
-    let e : stopped c.next.new.self.fault ≡ next_at xs place size = rw (v.0, v.1) at c.in-default.ensures.is in
+    let e : stopped c.next.new.self.fault ≡ next_at xs place size = rw (v.0, v.1) at c.in_default.ensures.is in
     let is : size ≡ (g.F.Flash.card me.flash).shape.size = ap (λ (x : Geometry). x.size) c.geometry-size.ensures.is ∙ ap (λ (x : _). (g.F.Flash.card x).shape.size) c.flash.ensures in
     let k =
-    complete_stop xs size s₀ c.args.answers.now c.args.area.now place t s c.loop-taken.answers c.loop-taken.area v.2 c.next.new.self.fault _ _ _ is c.in-default.ensures.on c.end-number.ensures (omega arith) e in
+    complete_stop xs size s₀ c.args.answers.now c.args.area.now place t s c.loop-taken.answers c.loop-taken.area v.2 c.next.new.self.fault _ _ _ is c.in_default.ensures.on c.end_number.ensures (omega arith) e in
     record { tells = k.tells; leaves = k.leaves; answered = k.answered_so; clears = k.clears; follows = k.follows_so; bounded = k.bounded_so }
 
 pub returns-then-answers-total : goal.returns-then-answers-total

@@ -4,16 +4,16 @@ use Rattle.chips.proofs.ImageFaults.{room_good, room_small}
 use Rattle.chips.proofs.ImageLaws.{block_end}
 use Rattle.chips.proofs.image.ImageChip.blank.Goals as goal
 
-pub blank-block-requires : goal.blank-block-requires
-blank-block-requires c =
+pub blank_block-requires : goal.blank_block-requires
+blank_block-requires c =
     let g = c.args.geometry in
     let m = c.args.memory.now in
-    let r = room_good g (length m) (sym c.in-default.ensures) in
+    let r = room_good g (length m) (sym c.in_default.ensures) in
     (room_small g r.0, omega (arith, block_end g m r.1 c.loop-block.block c.loop-block-test.true, c.loop-block.auto.memory))
 
 pub loop-block-preserved : goal.loop-block-preserved
 loop-block-preserved c =
-    fresh_more c.args.geometry c.args.memory.now c.loop-block.memory _ c.loop-block.block c.loop-block.invariant c.blank-block.ensures
+    fresh_more c.args.geometry c.args.memory.now c.loop-block.memory _ c.loop-block.block c.loop-block.invariant c.blank_block.ensures
 
 pub returns : goal.returns
 returns c =
@@ -21,7 +21,7 @@ returns c =
     let m = c.args.memory.now in
     let all = fresh_all g m c.loop-block.memory c.loop-block.block (omega arith) c.loop-block.invariant in
     record {
-      is = c.in-default.ensures;
+      is = c.in_default.ensures;
       holds = all;
-      fresh = λ _. blank_image_lem g m c.loop-block.memory c.in-default.ensures all;
+      fresh = λ _. blank_image_lem g m c.loop-block.memory c.in_default.ensures all;
     }

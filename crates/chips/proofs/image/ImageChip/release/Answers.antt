@@ -5,6 +5,6 @@ pub returns : goal.returns
 returns c =
     let s = c.args.self in
     record {
-      holds = c.into-bytes.ensures;
-      again = chip_again s.geometry s.memory.bytes.now _ s.whole c.into-bytes.ensures;
+      holds = c.into_bytes.ensures;
+      again = chip_again s.geometry s.memory.bytes.now _ s.whole c.into_bytes.ensures;
     }

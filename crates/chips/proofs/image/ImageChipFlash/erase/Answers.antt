@@ -8,53 +8,53 @@ use Rattle.chips.proofs.ImageLaws.{image_geometry, erase_fits}
 use Rattle.chips.proofs.ImageWrites.{erase_small, erase_header_fits, erase_image}
 use Rattle.chips.proofs.image.ImageChipFlash.erase.Goals as goal
 
-pub returns-in-err-check-erase : goal.returns-in-err-check-erase
-returns-in-err-check-erase c =
-    let p = err_from_is_err_and c.from-residual.result c.from-residual.ensures.1 in
+pub returns-in_err-check_erase : goal.returns-in_err-check_erase
+returns-in_err-check_erase c =
+    let p = err_from_is_err_and c.from_residual.result c.from_residual.ensures.1 in
     rw (p.1, p.2)
-    (erase_as _ _ (image_geometry _ _) _ _ c.erase-count-erases.ensures ∙ sym c.in-err-check-erase.ensures, refl)
+    (erase_as _ _ (image_geometry _ _) _ _ c.erase_count-erases.ensures ∙ sym c.in_err-check_erase.ensures, refl)
 
-pub overflow-add-erases : goal.overflow-add-erases
-overflow-add-erases c =
+pub overflow_add-erases : goal.overflow_add-erases
+overflow_add-erases c =
     let s = c.args.self.now in
     let g = s.geometry in
     let m = s.memory.bytes.now in
-    let can = can_erase_as _ _ (image_geometry g m) _ _ c.erase-count-erases.ensures c.in-ok-check-erase.ensures in
-    Fits-bits 32 tt (let few = erase_small g m (chip_whole g m s.whole) _ _ can c.erase-count-erases.ensures in omega arith)
+    let can = can_erase_as _ _ (image_geometry g m) _ _ c.erase_count-erases.ensures c.in_ok-check_erase.ensures in
+    Fits-bits 32 tt (let few = erase_small g m (chip_whole g m s.whole) _ _ can c.erase_count-erases.ensures in omega arith)
 
-pub header-bytes-header-requires : goal.header-bytes-header-requires
-header-bytes-header-requires c =
+pub header_bytes-header-requires : goal.header_bytes-header-requires
+header_bytes-header-requires c =
     let s = c.args.self.now in
     let g = s.geometry in
     let m = s.memory.bytes.now in
-    let can = can_erase_as _ _ (image_geometry g m) _ _ c.erase-count-erases.ensures c.in-ok-check-erase.ensures in
-    (omega arith, erase_small g m (chip_whole g m s.whole) _ _ can c.erase-count-erases.ensures)
+    let can = can_erase_as _ _ (image_geometry g m) _ _ c.erase_count-erases.ensures c.in_ok-check_erase.ensures in
+    (omega arith, erase_small g m (chip_whole g m s.whole) _ _ can c.erase_count-erases.ensures)
 
 pub clear-requires : goal.clear-requires
 clear-requires c =
     let s = c.args.self.now in
     let g = s.geometry in
     let m = s.memory.bytes.now in
-    let can = can_erase_as _ _ (image_geometry g m) _ _ c.erase-count-erases.ensures c.in-ok-check-erase.ensures in
-    erase_fits g m s.room _ _ can c.page-start-from.ensures
+    let can = can_erase_as _ _ (image_geometry g m) _ _ c.erase_count-erases.ensures c.in_ok-check_erase.ensures in
+    erase_fits g m s.room _ _ can c.page_start-from.ensures
 
 pub put-requires : goal.put-requires
 put-requires c =
     let s = c.args.self.now in
     let g = s.geometry in
     let m = s.memory.bytes.now in
-    let can = can_erase_as _ _ (image_geometry g m) _ _ c.erase-count-erases.ensures c.in-ok-check-erase.ensures in
+    let can = can_erase_as _ _ (image_geometry g m) _ _ c.erase_count-erases.ensures c.in_ok-check_erase.ensures in
     erase_header_fits g m c.clear.new.self.bytes.now _ _ _ _ _ can
-    c.page-start-from.ensures c.block-start.ensures c.erase-count-erases.ensures c.header-bytes-header.ensures c.clear.ensures s.room
+    c.page_start-from.ensures c.block_start.ensures c.erase_count-erases.ensures c.header_bytes-header.ensures c.clear.ensures s.room
 
-pub invariant-of-self : goal.invariant-of-self
-invariant-of-self c =
+pub invariant_of-self : goal.invariant_of-self
+invariant_of-self c =
     let s = c.args.self.now in
     let g = s.geometry in
     let m = s.memory.bytes.now in
-    let can = can_erase_as _ _ (image_geometry g m) _ _ c.erase-count-erases.ensures c.in-ok-check-erase.ensures in
+    let can = can_erase_as _ _ (image_geometry g m) _ _ c.erase_count-erases.ensures c.in_ok-check_erase.ensures in
     let image = erase_image g m c.clear.new.self.bytes.now _ _ _ _ _ can
-    c.page-start-from.ensures c.block-start.ensures c.erase-count-erases.ensures c.header-bytes-header.ensures c.clear.ensures
+    c.page_start-from.ensures c.block_start.ensures c.erase_count-erases.ensures c.header_bytes-header.ensures c.clear.ensures
     c.put.new.self.bytes.now c.put.ensures (chip_whole g m s.whole) in
     chip_keeps g c.put.new.self.bytes.now image.whole
 
@@ -63,8 +63,8 @@ returns c =
     let s = c.args.self.now in
     let g = s.geometry in
     let m = s.memory.bytes.now in
-    let can = can_erase_as _ _ (image_geometry g m) _ _ c.erase-count-erases.ensures c.in-ok-check-erase.ensures in
+    let can = can_erase_as _ _ (image_geometry g m) _ _ c.erase_count-erases.ensures c.in_ok-check_erase.ensures in
     let image = erase_image g m c.clear.new.self.bytes.now _ _ _ _ _ can
-    c.page-start-from.ensures c.block-start.ensures c.erase-count-erases.ensures c.header-bytes-header.ensures c.clear.ensures
+    c.page_start-from.ensures c.block_start.ensures c.erase_count-erases.ensures c.header_bytes-header.ensures c.clear.ensures
     c.put.new.self.bytes.now c.put.ensures (chip_whole g m s.whole) in
     (erase_accepted _ _ can, image.means)

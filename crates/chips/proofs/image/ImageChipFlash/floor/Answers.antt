@@ -4,14 +4,14 @@ use Rattle.chips.specs.Image.{floor_in, header_at}
 use Rattle.chips.proofs.ImageLaws.{image_here, image_absent, block_end}
 use Rattle.chips.proofs.image.ImageChipFlash.floor.Goals as goal
 
-pub header-at-requires : goal.header-at-requires
-header-at-requires c =
+pub header_at-requires : goal.header_at-requires
+header_at-requires c =
     let s = c.args.self.now in
     rw c.bytes.ensures (s.small, block_end s.geometry s.memory.bytes.now s.room c.args.block.0 c.if-block-self.true)
 
 pub returns-then-block-self : goal.returns-then-block-self
 returns-then-block-self c =
-    c.header-at.ensures.floor
+    c.header_at.ensures.floor
     ∙ ap (λ (m : List ℕ). floor_in (header_at c.args.self.now.geometry m c.args.block.0)) c.bytes.ensures
     ∙ sym (ap (λ (y : Block). y.floor) (image_here _ _ _ c.if-block-self.true))
 

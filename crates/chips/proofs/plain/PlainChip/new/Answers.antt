@@ -3,8 +3,8 @@ use Rattle.chips.specs.Plain.{plain_fault}
 use Rattle.chips.proofs.PlainLaws.{plain_none, none_sound, fault_card, fault_memory, plain_fits, plain_new, plain_new_sound, plain_new_room, plain_new_memory}
 use Rattle.chips.proofs.plain.PlainChip.new.Goals as goal
 
-pub invariant-of-result : goal.invariant-of-result
-invariant-of-result c = (refl, ((omega arith, omega arith, omega arith), (omega arith, (∣ none_sound _ _ ∣₁, tt))))
+pub invariant_of-result : goal.invariant_of-result
+invariant_of-result c = (refl, ((omega arith, omega arith, omega arith), (omega arith, (∣ none_sound _ _ ∣₁, tt))))
 
 pub returns-in-Some : goal.returns-in-Some
 returns-in-Some c =
@@ -16,11 +16,11 @@ returns-in-Some c =
       holds = fault_memory f g (length m) m c.in-Some.ensures;
     }
 
-pub invariant-of-result-2 : goal.invariant-of-result-2
-invariant-of-result-2 c =
+pub invariant_of-result-2 : goal.invariant_of-result-2
+invariant_of-result-2 c =
     let g = c.args.geometry in
     let m = c.args.memory.now in
-    let h : plain_fault g (length m) ≡ None = sym c.in-default.ensures in
+    let h : plain_fault g (length m) ≡ None = sym c.in_default.ensures in
     let f = plain_fits g (length m) h in (
       refl,
       (
@@ -36,7 +36,7 @@ pub returns : goal.returns
 returns c =
     let g = c.args.geometry in
     let m = c.args.memory.now in
-    let h : plain_fault g (length m) ≡ None = sym c.in-default.ensures in
+    let h : plain_fault g (length m) ≡ None = sym c.in_default.ensures in
     record {
       shows = plain_new g m c.clear.new.self.bytes.now h c.clear.ensures;
       holds = plain_new_memory g m c.clear.new.self.bytes.now h c.clear.ensures;

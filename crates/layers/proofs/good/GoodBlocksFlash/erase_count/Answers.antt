@@ -5,11 +5,11 @@ use Rattle.layers.proofs.FlashLaws.{missing_erase_count}
 use Rattle.layers.proofs.SeenLaws.{seen_erase_count}
 use Rattle.layers.proofs.good.GoodBlocksFlash.erase_count.Goals as goal
 
-pub returns-in-default : goal.returns-in-default
-returns-in-default g c =
+pub returns-in_default : goal.returns-in_default
+returns-in_default g c =
     let t = c.args.self.now.bad in
     let f = g.F.Flash.card c.args.self.now.flash in
-    let missing = good_missing t f c.args.block.0 c.in-default.ensures in
+    let missing = good_missing t f c.args.block.0 c.in_default.ensures in
     missing_erase_count (good_card t f) c.args.block.0 missing
 
 pub returns : goal.returns
@@ -17,4 +17,4 @@ returns g c =
     let t = c.args.self.now.bad in
     let f = g.F.Flash.card c.args.self.now.flash in
     let seen = seen_good t f c.args.block.0 c.in-Some.below c.in-Some.ensures in
-    seen_erase_count seen c.erase-count.result c.erase-count.ensures
+    seen_erase_count seen c.erase_count.result c.erase_count.ensures

@@ -5,11 +5,11 @@ use Rattle.layers.proofs.FlashLaws.{missing_floor}
 use Rattle.layers.proofs.SeenLaws.{seen_floor}
 use Rattle.layers.proofs.good.GoodBlocksFlash.floor.Goals as goal
 
-pub returns-in-default : goal.returns-in-default
-returns-in-default g c =
+pub returns-in_default : goal.returns-in_default
+returns-in_default g c =
     let t = c.args.self.now.bad in
     let f = g.F.Flash.card c.args.self.now.flash in
-    let missing = good_missing t f c.args.block.0 c.in-default.ensures in
+    let missing = good_missing t f c.args.block.0 c.in_default.ensures in
     missing_floor (good_card t f) c.args.block.0 missing
 
 pub returns : goal.returns

@@ -6,11 +6,11 @@ use Rattle.layers.proofs.FlashLaws.{missing_program}
 use Rattle.layers.proofs.SeenLaws.{seen_program}
 use Rattle.layers.proofs.good.GoodBlocksFlash.program.Goals as goal
 
-pub returns-in-default : goal.returns-in-default
-returns-in-default g c =
+pub returns-in_default : goal.returns-in_default
+returns-in_default g c =
     let t = c.args.self.now.bad in
     let f = g.F.Flash.card c.args.self.now.flash in
-    let missing = good_missing t f c.args.block.0 c.in-default.ensures in
+    let missing = good_missing t f c.args.block.0 c.in_default.ensures in
     (missing_program (good_card t f) c.args.block.0 missing c.args.page (length c.args.bytes.now), refl)
 
 pub returns : goal.returns

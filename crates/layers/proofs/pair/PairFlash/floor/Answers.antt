@@ -5,11 +5,11 @@ use Rattle.layers.proofs.FlashLaws.{missing_floor}
 use Rattle.layers.proofs.SeenLaws.{seen_floor}
 use Rattle.layers.proofs.pair.PairFlash.floor.Goals as goal
 
-pub returns-in-default : goal.returns-in-default
-returns-in-default g c =
+pub returns-in_default : goal.returns-in_default
+returns-in_default g c =
     let l = g.L.Flash.card c.args.self.now.left in
     let r = g.R.Flash.card c.args.self.now.right in
-    let missing = pair_missing l r c.args.block.0 c.in-default.ensures in
+    let missing = pair_missing l r c.args.block.0 c.in_default.ensures in
     missing_floor (pair_card l r) c.args.block.0 missing
 
 pub returns-in-Left : goal.returns-in-Left
@@ -24,4 +24,4 @@ returns-in-Right g c =
     let l = g.L.Flash.card c.args.self.now.left in
     let r = g.R.Flash.card c.args.self.now.right in
     let seen = seen_right l r c.args.block.0 c.in-Some.ensures c.in-Right.is in
-    seen_floor seen c.floor-in-Right.result c.floor-in-Right.ensures
+    seen_floor seen c.floor_in-Right.result c.floor_in-Right.ensures

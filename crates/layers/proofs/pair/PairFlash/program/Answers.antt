@@ -6,11 +6,11 @@ use Rattle.layers.proofs.FlashLaws.{missing_program}
 use Rattle.layers.proofs.SeenLaws.{seen_program}
 use Rattle.layers.proofs.pair.PairFlash.program.Goals as goal
 
-pub returns-in-default : goal.returns-in-default
-returns-in-default g c =
+pub returns-in_default : goal.returns-in_default
+returns-in_default g c =
     let l = g.L.Flash.card c.args.self.now.left in
     let r = g.R.Flash.card c.args.self.now.right in
-    let missing = pair_missing l r c.args.block.0 c.in-default.ensures in
+    let missing = pair_missing l r c.args.block.0 c.in_default.ensures in
     (missing_program (pair_card l r) c.args.block.0 missing c.args.page (length c.args.bytes.now), refl)
 
 pub returns-in-Left : goal.returns-in-Left

@@ -5,7 +5,7 @@ use Rattle.store.specs.declared.slot.Slot.{Slot}
 use Rattle.store.specs.View.{slot_of}
 use Rattle.store.proofs.CountLaws.{slots_more, take_least}
 use Rattle.store.proofs.counts.RegionBlockCounted.count.Goals as goal
-use Rattle.store.proofs.counts.RegionBlockCounted.count.Goals.{in-Dead, in-default}
+use Rattle.store.proofs.counts.RegionBlockCounted.count.Goals.{in-Dead, in_default}
 
 pub loop-i-init : goal.loop-i-init
 loop-i-init c = (omega arith, refl, λ h. absurd (omega arith))
@@ -18,8 +18,8 @@ loop-i-preserved c =
       | in-Dead w ↦
           let e = slots_more one_dead xs c.loop-i.i _ _ (omega arith) w.in-Dead.is in
           (omega (arith, w.dead-is), omega (arith, w.dead-is, e), λ _. wide)
-      | in-default w ↦
-          let e = slots_more one_dead xs c.loop-i.i _ _ (omega arith) w.in-default.is in
+      | in_default w ↦
+          let e = slots_more one_dead xs c.loop-i.i _ _ (omega arith) w.in_default.is in
           (omega (arith, w.dead-is), omega (arith, w.dead-is, e), λ _. wide)
     ]
 

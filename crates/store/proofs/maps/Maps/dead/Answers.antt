@@ -16,8 +16,8 @@ few_dead c =
     let shaped = row_shaped m c.loop-place.place c.loop-place-test.true in
     omega (arith, deads_le (slots_of k), slots_length k shaped, shaped.short, c.count-dead.ensures)
 
-pub overflow-add-dead : goal.overflow-add-dead
-overflow-add-dead c = omega (arith, few_dead c, c.loop-place.invariant.0, c.args.self.now.limits.3)
+pub overflow_add-dead : goal.overflow_add-dead
+overflow_add-dead c = omega (arith, few_dead c, c.loop-place.invariant.0, c.args.self.now.limits.3)
 
 pub loop-place-preserved : goal.loop-place-preserved
 loop-place-preserved c =

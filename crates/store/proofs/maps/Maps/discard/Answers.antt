@@ -8,7 +8,7 @@ use Rattle.store.specs.Places.{place_of}
 use Rattle.store.specs.State.{state_of}
 use Rattle.store.proofs.MapsLaws.{orderly}
 use Rattle.store.proofs.maps.Maps.discard.Goals as goal
-use Rattle.store.proofs.maps.Maps.discard.Goals.{then-has+in-Some, then-has+in-default, else-has}
+use Rattle.store.proofs.maps.Maps.discard.Goals.{then-has+in-Some, then-has+in_default, else-has}
 
 pub loop-page-init : goal.loop-page-init
 loop-page-init c = λ k.
@@ -39,9 +39,9 @@ loop-page-preserved c = λ k.
           let here : held (state_of m k) d i ≡ Some (place_of w.in-Some.place) = sym (w.in-Some.ensures.held k) in
           rw w.self-is
           (dropped_more (state_of m₀ k) (state_of m k) (state_of w.forget.new.self k) d g i in_sets one (c.loop-page.invariant k) (w.forget.ensures k d i here))
-      | then-has+in-default w ↦
+      | then-has+in_default w ↦
           let one : has g i ≡ true = sym w.if-has.ensures in
-          let nowhere : held (state_of m k) d i ≡ None = sym (w.in-default.ensures.held k) in
+          let nowhere : held (state_of m k) d i ≡ None = sym (w.in_default.ensures.held k) in
           rw w.self-is
           (dropped_more (state_of m₀ k) (state_of m k) (state_of m k) d g i in_sets one (c.loop-page.invariant k) (sym (drop_absent (state_of m k) d i (orderly m) nowhere)))
       | else-has w ↦ rw w.self-is (c.loop-page.invariant k ∙ dropped_as (state_of m₀ k) d (up_to g i) (up_to g (i + 1)) (up_to_skip g i (sym w.if-has.ensures)))

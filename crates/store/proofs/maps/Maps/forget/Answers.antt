@@ -22,12 +22,12 @@ of_data m x b i n e h f =
     let in_data = subst (λ (y : Region). Inside y b i m.plan m.pages m.table) e h in
     omega (arith, in_data.0)
 
-pub invariant-of-self : goal.invariant-of-self
-invariant-of-self c =
+pub invariant_of-self : goal.invariant_of-self
+invariant_of-self c =
     let m = c.args.self.now in
-    let b = c.logical-block-number.result.0 in
+    let b = c.logical_block-number.result.0 in
     let i = c.args.place.2 in
-    let in_data = of_data m c.args.place.0 c.args.place.1.0 i b c.in-BlockMapped.is c.requires c.logical-block-number.ensures in
+    let in_data = of_data m c.args.place.0 c.args.place.1.0 i b c.in-BlockMapped.is c.requires c.logical_block-number.ensures in
     let is = left_is m b i _ c.with.result c.without.result in_data c.with.ensures c.without.ensures in (
       (length-set m.sets b c.without.result ∙ m.sizes.0, m.sizes.1),
       (m.limits, (m.small, (m.spare, (∣ forgotten_set m b i c.without.result is ∣₁, tt)))),
@@ -36,12 +36,12 @@ invariant-of-self c =
 pub returns-in-BlockMapped : goal.returns-in-BlockMapped
 returns-in-BlockMapped c = λ k d j e.
     let m = c.args.self.now in
-    let b = c.logical-block-number.result.0 in
+    let b = c.logical_block-number.result.0 in
     let i = c.args.place.2 in
-    let in_data = of_data m c.args.place.0 c.args.place.1.0 i b c.in-BlockMapped.is c.requires c.logical-block-number.ensures in
+    let in_data = of_data m c.args.place.0 c.args.place.1.0 i b c.in-BlockMapped.is c.requires c.logical_block-number.ensures in
     let is = left_is m b i _ c.with.result c.without.result in_data c.with.ensures c.without.ensures in
     let here : held (state_of m k) d j ≡ Some (2, b, i) =
-    e ∙ ap (λ (x : Region). Some (way_of x, c.args.place.1.0, i)) c.in-BlockMapped.is ∙ ap (λ (n : ℕ). Some (2, n, i)) (sym c.logical-block-number.ensures) in
+    e ∙ ap (λ (x : Region). Some (way_of x, c.args.place.1.0, i)) c.in-BlockMapped.is ∙ ap (λ (n : ℕ). Some (2, n, i)) (sym c.logical_block-number.ensures) in
     state_set m.plan m.pages m.sets m.table m.reserve k b c.without.result ∙ forget_set m b i c.without.result is k d j here
 
 -- ---- a slot
@@ -65,17 +65,17 @@ of_region m x b i r e h f =
 pub mark-requires : goal.mark-requires
 mark-requires c =
     let m = c.args.self.now in
-    let r = c.region-place-row.result in
-    let at = of_region m c.args.place.0 c.args.place.1.0 c.args.place.2 r c.in-PageMapped.is c.requires c.region-place-row.ensures in
+    let r = c.region_place-row.result in
+    let at = of_region m c.args.place.0 c.args.place.1.0 c.args.place.2 r c.in-PageMapped.is c.requires c.region_place-row.ensures in
     (row_shaped m r at.inside, omega (arith, at.slot, row_length m r at.inside))
 
-pub invariant-of-self-in-PageMapped : goal.invariant-of-self-in-PageMapped
-invariant-of-self-in-PageMapped c =
+pub invariant_of-self-in-PageMapped : goal.invariant_of-self-in-PageMapped
+invariant_of-self-in-PageMapped c =
     let m = c.args.self.now in
-    let r = c.region-place-row.result in
+    let r = c.region_place-row.result in
     let i = c.args.place.2 in
     let b = c.mark.new.self in
-    let at = of_region m c.args.place.0 c.args.place.1.0 i r c.in-PageMapped.is c.requires c.region-place-row.ensures in (
+    let at = of_region m c.args.place.0 c.args.place.1.0 i r c.in-PageMapped.is c.requires c.region_place-row.ensures in (
       (m.sizes.0, length-set m.table r b ∙ m.sizes.1),
       (m.limits, (m.small, (m.spare, (∣ forgotten_slot m r i b at.inside at.slot c.mark.ensures.slots c.mark.ensures.shaped ∣₁, tt)))),
     )
@@ -83,10 +83,10 @@ invariant-of-self-in-PageMapped c =
 pub returns-in-PageMapped : goal.returns-in-PageMapped
 returns-in-PageMapped c = λ k d j e.
     let m = c.args.self.now in
-    let r = c.region-place-row.result in
+    let r = c.region_place-row.result in
     let i = c.args.place.2 in
     let b = c.mark.new.self in
-    let at = of_region m c.args.place.0 c.args.place.1.0 i r c.in-PageMapped.is c.requires c.region-place-row.ensures in
+    let at = of_region m c.args.place.0 c.args.place.1.0 i r c.in-PageMapped.is c.requires c.region_place-row.ensures in
     let here : held (state_of m k) d j ≡ Some (1, m.plan.data + r, i) =
     e ∙ ap (λ (x : Region). Some (way_of x, c.args.place.1.0, i)) c.in-PageMapped.is ∙ ap (λ (n : ℕ). Some (1, n, i)) at.block in
     state_row m.plan m.pages m.sets m.table m.reserve k r b ∙ forget_slot m r i b at.inside at.slot c.mark.ensures.slots k d j here

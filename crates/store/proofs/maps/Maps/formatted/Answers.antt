@@ -4,8 +4,8 @@ use Rattle.rules.proofs.PlanLaws.{plan_limits}
 use Rattle.store.proofs.TableLaws.{same_maps, empty_sets, empty_table, whole_empty}
 use Rattle.store.proofs.maps.Maps.formatted.Goals as goal
 
-pub invariant-of-result : goal.invariant-of-result
-invariant-of-result c =
+pub invariant_of-result : goal.invariant_of-result
+invariant_of-result c =
     let p = c.args.plan in
     let n = c.args.pages in
     let l = plan_limits p n c.requires.0 in (

@@ -11,8 +11,8 @@ use Rattle.store.specs.View.{table_of}
 use Rattle.store.proofs.ShareLaws.{no_share, shares_greatest}
 use Rattle.store.proofs.maps.Maps.fullest.Goals as goal
 
-pub overflow-cast-result : goal.overflow-cast-result
-overflow-cast-result c =
+pub overflow_cast-result : goal.overflow_cast-result
+overflow_cast-result c =
     let live : Share → ℕ = λ s. s.live in
     let xs = take (c.args.self.now.plan.data - 0) c.shares-shares.result in
     let k = greatest_in live xs c.in-Some.place (sym c.in-Some.ensures) in

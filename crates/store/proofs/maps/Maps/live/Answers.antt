@@ -5,8 +5,8 @@ use Rattle.rules.proofs.Counts.{all_slots}
 use Rattle.store.specs.View.{table_of}
 use Rattle.store.proofs.maps.Maps.live.Goals as goal
 
-pub overflow-sub-result : goal.overflow-sub-result
-overflow-sub-result c =
+pub overflow_sub-result : goal.overflow_sub-result
+overflow_sub-result c =
     let m = c.args.self.now in
     omega (arith, c.used.ensures, c.dead.ensures no_card, all_slots (table_of m.plan m.table))
 

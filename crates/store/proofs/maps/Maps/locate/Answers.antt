@@ -12,7 +12,7 @@ use Rattle.store.proofs.TableLaws.{no_block}
 use Rattle.store.proofs.MapsLaws.{row_at_lem, row_shaped, row_short, rows, row_length, set_in_maps}
 use Rattle.store.proofs.LocateLaws.{at_true, at_other_block, at_other_page, at_dead, slot_found, slot_none, place_found, place_none, in_region, held_data, held_region}
 use Rattle.store.proofs.maps.Maps.locate.Goals as goal
-use Rattle.store.proofs.maps.Maps.locate.Goals.{in-Live+else-eq, else-eq-via-then-eq+else-number-page, else-eq-via-else-eq, in-default}
+use Rattle.store.proofs.maps.Maps.locate.Goals.{in-Live+else-eq, else-eq-via-then-eq+else-number-page, else-eq-via-else-eq, in_default}
 
 -- the test of the block map, as the state has it
 valid_as : (m : Maps) (d i : ℕ) (b : Bool) → d < m.plan.data → b ≡ has (get_or m.sets d (record { 0 = 0 })).0 i → has (get_or (sets_of m.plan m.sets) d 0) i ≡ b
@@ -25,12 +25,12 @@ returns-then-has c =
     record {
       inside = (omega arith, omega arith);
       held = λ k.
-          ap (λ (b : ℕ). Some (2, b, c.args.page)) c.data-block.ensures
+          ap (λ (b : ℕ). Some (2, b, c.args.page)) c.data_block.ensures
           ∙ sym (held_data (state_of m k) d c.args.page (valid_as m d c.args.page true c.requires.0 c.if-has.ensures));
     }
 
-pub offset-bounds-row-slot : goal.offset-bounds-row-slot
-offset-bounds-row-slot c = omega (arith, row_short c.args.self.now c.search.place c.search-test.true, c.args.self.now.small.2)
+pub offset_bounds-row-slot : goal.offset_bounds-row-slot
+offset_bounds-row-slot c = omega (arith, row_short c.args.self.now c.search.place c.search-test.true, c.args.self.now.small.2)
 
 pub bounds-row-slot : goal.bounds-row-slot
 bounds-row-slot c = omega (arith, row_short c.args.self.now c.search.place c.search-test.true, c.args.self.now.small.2)
@@ -52,7 +52,7 @@ loop-slot-preserved c =
             | else-eq-via-then-eq+else-number-page w' ↦ at_other_page d i _ _ w'.if-number-page.false
             | else-eq-via-else-eq w' ↦ at_other_block d i _ _ (λ q. false≢true (w'.if-eq.ensures.1 q))
           ]
-      | in-default w ↦ ap (is_at d i) (slot_at b slot _ _ shaped lt w.in-default.is) ∙ at_dead d i
+      | in_default w ↦ ap (is_at d i) (slot_at b slot _ _ shaped lt w.in_default.is) ∙ at_dead d i
     ] in
     (c.loop-slot.invariant.0, below_more (λ k. is_at d i (get_or (slots_of b) k dead) ≡ false) slot c.loop-slot.invariant.1 here)
 
@@ -92,8 +92,8 @@ returns-then-number-page c =
     let slot = c.loop-slot.slot in
     let b = get_or m.table r no_block in
     let shaped = row_shaped m r c.search-test.true in
-    let e : c.region-block.result.0 ≡ m.plan.data + r = c.region-block.ensures in
-    let place : r ≡ c.region-block.result.0 - m.plan.data = omega arith in
+    let e : c.region_block.result.0 ≡ m.plan.data + r = c.region_block.ensures in
+    let place : r ≡ c.region_block.result.0 - m.plan.data = omega arith in
     let in_row : slot < length (get_or (table_of m.plan m.table) r []) = omega (arith, row_length m r c.search-test.true) in
     let here : is_at d i (get_or (slots_of b) slot dead) ≡ true =
     ap (is_at d i) (slot_at b slot _ _ shaped c.loop-slot-test.true c.in-Live.is)

@@ -16,8 +16,8 @@ use Rattle.store.proofs.maps.Maps.renew.Goals as goal
 unnamed : (d i : ℕ) (t : List (List Slot)) → named_in d i (retired (of_block d) t) ≡ 0
 unnamed d i t = named_retired d i (of_block d) t ∙ ap (λ (b : Bool). cond b 0 (named_in d i t)) (eq-eqb d d refl)
 
-pub invariant-of-self : goal.invariant-of-self
-invariant-of-self c =
+pub invariant_of-self : goal.invariant_of-self
+invariant_of-self c =
     let m₀ = c.args.self.now in
     let m = c.retire.new.self in
     let d = c.args.block.0 in

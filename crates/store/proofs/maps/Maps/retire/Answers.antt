@@ -33,8 +33,8 @@ retire-requires c =
     let l = c.loop-place in
     row_shaped l.self l.place (its_region c.args.block.0 l.place c.args.self.now l.self l.invariant c.loop-place-test.true)
 
-pub invariant-of-self : goal.invariant-of-self
-invariant-of-self c =
+pub invariant_of-self : goal.invariant_of-self
+invariant_of-self c =
     let m = c.loop-place.self in
     let r = c.loop-place.place in
     let d = c.args.block.0 in

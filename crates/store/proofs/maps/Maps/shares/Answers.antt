@@ -7,10 +7,10 @@ use Rattle.store.proofs.MapsLaws.{row_shaped, slot_within}
 use Rattle.store.proofs.CountLaws.{slots_more, rows_more, rows_all}
 use Rattle.store.proofs.ShareLaws.{so_far, shares_none, shares_as, shares_more}
 use Rattle.store.proofs.maps.Maps.shares.Goals as goal
-use Rattle.store.proofs.maps.Maps.shares.Goals.{in-Live, in-default}
+use Rattle.store.proofs.maps.Maps.shares.Goals.{in-Live, in_default}
 
-pub offset-bounds-row-i : goal.offset-bounds-row-i
-offset-bounds-row-i c = omega (arith, (row_shaped c.args.self.now c.loop-place.place c.loop-place-test.true).short)
+pub offset_bounds-row-i : goal.offset_bounds-row-i
+offset_bounds-row-i c = omega (arith, (row_shaped c.args.self.now c.loop-place.place c.loop-place-test.true).short)
 
 pub bounds-row-i : goal.bounds-row-i
 bounds-row-i c = omega (arith, (row_shaped c.args.self.now c.loop-place.place c.loop-place-test.true).short)
@@ -23,8 +23,8 @@ bounds-shares-owner c =
     let m = c.args.self.now in
     omega (arith, (slot_within m c.loop-place.place c.loop-i.i _ _ _ c.loop-place-test.true c.loop-i-test.true c.in-Live.is).0, m.limits.1)
 
-pub overflow-add-shares : goal.overflow-add-shares
-overflow-add-shares c =
+pub overflow_add-shares : goal.overflow_add-shares
+overflow_add-shares c =
     let m = c.args.self.now in
     let d = (slot_within m c.loop-place.place c.loop-i.i _ _ _ c.loop-place-test.true c.loop-i-test.true c.in-Live.is).0 in
     let low = c.loop-i.invariant.low c.in-Live.owner.0 (omega (arith, m.limits.1)) in
@@ -53,9 +53,9 @@ loop-i-preserved c =
           rw w.shares-is
           (shares_as _ (64 * r + i + 1) (64 * r + (i + 1)) (λ d. was d + cond (eqb e d) 1 0) is (λ d. omega (arith, slots_more (one_of d) xs i _ _ in_row w.in-Live.is)) (omega arith)
           (shares_more c.loop-i.shares (64 * r + i) was e (omega (arith, below, m.limits.1)) c.loop-i.invariant))
-      | in-default w ↦
+      | in_default w ↦
           rw w.shares-is
-          (shares_as c.loop-i.shares (64 * r + i) (64 * r + (i + 1)) was is (λ d. omega (arith, slots_more (one_of d) xs i _ _ in_row w.in-default.is)) (omega arith) c.loop-i.invariant)
+          (shares_as c.loop-i.shares (64 * r + i) (64 * r + (i + 1)) was is (λ d. omega (arith, slots_more (one_of d) xs i _ _ in_row w.in_default.is)) (omega arith) c.loop-i.invariant)
     ]
 
 pub loop-place-preserved : goal.loop-place-preserved

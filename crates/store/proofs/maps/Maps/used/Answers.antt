@@ -6,8 +6,8 @@ use Rattle.store.proofs.MapsLaws.{row_shaped}
 use Rattle.store.proofs.CountLaws.{rows_more, rows_all}
 use Rattle.store.proofs.maps.Maps.used.Goals as goal
 
-pub overflow-add-used : goal.overflow-add-used
-overflow-add-used c =
+pub overflow_add-used : goal.overflow_add-used
+overflow_add-used c =
     let m = c.args.self.now in
     omega (arith, (row_shaped m c.loop-place.place c.loop-place-test.true).short, c.loop-place.invariant.0, m.limits.3)
 

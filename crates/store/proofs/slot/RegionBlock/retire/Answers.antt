@@ -6,7 +6,7 @@ use Rattle.rules.specs.Moves.{retire, of_block}
 use Rattle.store.specs.View.{slots_of}
 use Rattle.store.proofs.SlotLaws.{slot_at, slots_length, used_same, turned_more, turned_same, turned_all, retire_own, retire_other, retire_dead}
 use Rattle.store.proofs.slot.RegionBlock.retire.Goals as goal
-use Rattle.store.proofs.slot.RegionBlock.retire.Goals.{in-Live+then-eq, in-Live+else-eq, in-default}
+use Rattle.store.proofs.slot.RegionBlock.retire.Goals.{in-Live+then-eq, in-Live+else-eq, in_default}
 
 pub mark-requires : goal.mark-requires
 mark-requires c =
@@ -35,8 +35,8 @@ loop-i-preserved c =
           let at = slot_at b i _ _ inv.0 lt w.in-Live.is in
           let is : f x ≡ x = ap f at ∙ retire_other d _ _ (λ q. false≢true (w.if-eq.ensures.1 q)) ∙ sym at in
           rw w.self-is (inv.0, turned_same f (slots_of a) (slots_of b) i dead long₀ long inv.1 is)
-      | in-default w ↦
-          let at = slot_at b i _ _ inv.0 lt w.in-default.is in
+      | in_default w ↦
+          let at = slot_at b i _ _ inv.0 lt w.in_default.is in
           let is : f x ≡ x = ap f at ∙ retire_dead d ∙ sym at in
           rw w.self-is (inv.0, turned_same f (slots_of a) (slots_of b) i dead long₀ long inv.1 is)
     ]

@@ -9,15 +9,15 @@ pub returns-then-area-self : goal.returns-then-area-self
 returns-then-area-self g c =
     let s = state_of c.args.self.now.maps (g.F.Flash.card c.args.self.now.flash) in
     let size = ap (λ x. s.pages * x.size) c.geometry.ensures.is in
-    record { sound = c.is-ready.ensures.sound; is = number_as _ s _ _ (state_is _ s _ c.is-ready.ensures.is c.if-not-is-ready.false) (idle_11 s c.args.area (omega (arith, size, c.if-area-self.true))) }
+    record { sound = c.is_ready.ensures.sound; is = number_as _ s _ _ (state_is _ s _ c.is_ready.ensures.is c.if-not-is_ready.false) (idle_11 s c.args.area (omega (arith, size, c.if-area-self.true))) }
 
-pub returns-then-near-worn : goal.returns-then-near-worn
-returns-then-near-worn g c =
+pub returns-then-near_worn : goal.returns-then-near_worn
+returns-then-near_worn g c =
     let k = g.F.Flash.card c.args.self.now.flash in
     let s = state_of c.args.self.now.maps k in
     let size = ap (λ x. s.pages * x.size) c.geometry.ensures.is in
     let worn = ap (λ x. near_worn x.blocks k) c.geometry-2.ensures.is in
-    record { sound = c.is-ready.ensures.sound; is = number_as _ s _ _ (state_is _ s _ c.is-ready.ensures.is c.if-not-is-ready.false) (idle_12 s c.args.area (omega (arith, size, c.if-area-self.false)) (sym worn ∙ sym c.if-near-worn.ensures)) }
+    record { sound = c.is_ready.ensures.sound; is = number_as _ s _ _ (state_is _ s _ c.is_ready.ensures.is c.if-not-is_ready.false) (idle_12 s c.args.area (omega (arith, size, c.if-area-self.false)) (sym worn ∙ sym c.if-near_worn.ensures)) }
 
 pub returns : goal.returns
 returns g c =
@@ -26,9 +26,9 @@ returns g c =
     let size = ap (λ x. s.pages * x.size) c.geometry.ensures.is in
     let worn = ap (λ x. near_worn x.blocks k) c.geometry-2.ensures.is in
     record {
-      sound = c.is-ready.ensures.sound;
+      sound = c.is_ready.ensures.sound;
       is = (
-        state_is _ s _ c.is-ready.ensures.is c.if-not-is-ready.false,
-        idle_0 s c.args.area (omega (arith, size, c.if-area-self.false)) (sym worn ∙ sym c.if-near-worn.ensures),
+        state_is _ s _ c.is_ready.ensures.is c.if-not-is_ready.false,
+        idle_0 s c.args.area (omega (arith, size, c.if-area-self.false)) (sym worn ∙ sym c.if-near_worn.ensures),
       );
     }

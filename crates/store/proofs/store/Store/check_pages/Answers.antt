@@ -7,25 +7,25 @@ use Rattle.store.proofs.store.Store.check_pages.Goals as goal
 pub returns-then-block-self : goal.returns-then-block-self
 returns-then-block-self g c =
     let s = state_of c.args.self.now.maps (g.F.Flash.card c.args.self.now.flash) in
-    record { sound = c.is-ready.ensures.sound; is = number_as _ s _ _ (state_is _ s _ c.is-ready.ensures.is c.if-not-is-ready.false) (discard_7 s _ _ c.if-block-self.true) }
+    record { sound = c.is_ready.ensures.sound; is = number_as _ s _ _ (state_is _ s _ c.is_ready.ensures.is c.if-not-is_ready.false) (discard_7 s _ _ c.if-block-self.true) }
 
 pub returns-then-not-within : goal.returns-then-not-within
 returns-then-not-within g c =
     let s = state_of c.args.self.now.maps (g.F.Flash.card c.args.self.now.flash) in
-    record { sound = c.is-ready.ensures.sound; is = number_as _ s _ _ (state_is _ s _ c.is-ready.ensures.is c.if-not-is-ready.false) (discard_8 s _ _ c.if-block-self.false (sym c.if-not-within.ensures)) }
+    record { sound = c.is_ready.ensures.sound; is = number_as _ s _ _ (state_is _ s _ c.is_ready.ensures.is c.if-not-is_ready.false) (discard_8 s _ _ c.if-block-self.false (sym c.if-not-within.ensures)) }
 
-pub returns-then-is-empty : goal.returns-then-is-empty
-returns-then-is-empty g c =
+pub returns-then-is_empty : goal.returns-then-is_empty
+returns-then-is_empty g c =
     let s = state_of c.args.self.now.maps (g.F.Flash.card c.args.self.now.flash) in
-    record { sound = c.is-ready.ensures.sound; is = number_as _ s _ _ (state_is _ s _ c.is-ready.ensures.is c.if-not-is-ready.false) (discard_9 s _ _ c.if-block-self.false (sym c.if-not-within.ensures) (sym c.if-is-empty.ensures)) }
+    record { sound = c.is_ready.ensures.sound; is = number_as _ s _ _ (state_is _ s _ c.is_ready.ensures.is c.if-not-is_ready.false) (discard_9 s _ _ c.if-block-self.false (sym c.if-not-within.ensures) (sym c.if-is_empty.ensures)) }
 
 pub returns : goal.returns
 returns g c =
     let s = state_of c.args.self.now.maps (g.F.Flash.card c.args.self.now.flash) in
     record {
-      sound = c.is-ready.ensures.sound;
+      sound = c.is_ready.ensures.sound;
       is = (
-        state_is _ s _ c.is-ready.ensures.is c.if-not-is-ready.false,
-        discard_0 s _ _ c.if-block-self.false (sym c.if-not-within.ensures) (sym c.if-is-empty.ensures),
+        state_is _ s _ c.is_ready.ensures.is c.if-not-is_ready.false,
+        discard_0 s _ _ c.if-block-self.false (sym c.if-not-within.ensures) (sym c.if-is_empty.ensures),
       );
     }

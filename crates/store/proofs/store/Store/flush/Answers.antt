@@ -11,17 +11,17 @@ use Rattle.store.proofs.CheckLaws.{number_pos, refused_answer, accepted_answer}
 use Rattle.store.proofs.PlaceLaws.{kept_state, wiped}
 use Rattle.store.proofs.store.Store.flush.Goals as goal
 
-pub returns-in-err-check-flush : goal.returns-in-err-check-flush
-returns-in-err-check-flush g c =
-    let p = err_from_is_err_and c.from-residual.result c.from-residual.ensures.1 in
-    let r = refused_answer _ (flush c.args.block.0 c.args.pages.0 c.args.bytes.now _) _ c.in-err-check-flush.ensures.is (number_pos _) in
+pub returns-in_err-check_flush : goal.returns-in_err-check_flush
+returns-in_err-check_flush g c =
+    let p = err_from_is_err_and c.from_residual.result c.from_residual.ensures.1 in
+    let r = refused_answer _ (flush c.args.block.0 c.args.pages.0 c.args.bytes.now _) _ c.in_err-check_flush.ensures.is (number_pos _) in
     rw (p.1, p.2) (record { tells = r.0; leaves = sym r.1; clears = refl; few = tt; refused = λ e. refl })
 
-pub place-group-requires : goal.place-group-requires
-place-group-requires g c =
+pub place_group-requires : goal.place_group-requires
+place_group-requires g c =
     let k = g.F.Flash.card c.args.self.now.flash in
     let s = state_of c.args.self.now.maps k in
-    let done = c.in-ok-check-flush.ensures in
+    let done = c.in_ok-check_flush.ensures in
     record {
       ready = maps_ready c.args.self.now.maps k done.sound (some_agreeing _ s done.is.0);
       flushable = can_flush s _ _ _ _ done.is.1;
@@ -31,15 +31,15 @@ pub wipe-requires : goal.wipe-requires
 wipe-requires g c =
     let k = g.F.Flash.card c.args.self.now.flash in
     let s = state_of c.args.self.now.maps k in
-    let can = can_flush s c.args.block.0 c.args.pages.0 _ (length c.args.area.now) c.in-ok-check-flush.ensures.is.1 in
-    omega (arith, can.area_long, ap (λ x. s.pages * x.size) c.geometry.ensures.is, c.place-group.auto.area)
+    let can = can_flush s c.args.block.0 c.args.pages.0 _ (length c.args.area.now) c.in_ok-check_flush.ensures.is.1 in
+    omega (arith, can.area_long, ap (λ x. s.pages * x.size) c.geometry.ensures.is, c.place_group.auto.area)
 
 pub returns : goal.returns
 returns g c =
     let k = g.F.Flash.card c.args.self.now.flash in
     let s = state_of c.args.self.now.maps k in
     let call = flush c.args.block.0 c.args.pages.0 c.args.bytes.now (length c.args.area.now) in
-    let checked = c.in-ok-check-flush.ensures in
+    let checked = c.in_ok-check_flush.ensures in
     let placed = c.in-Ok.ensures in
     let ready = maps_ready c.args.self.now.maps k checked.sound (some_agreeing _ s checked.is.0) in
     let r = accepted_answer _ call s checked.is.0 checked.is.1 in

@@ -10,10 +10,10 @@ use Rattle.store.proofs.CheckLaws.{number_pos, refused_answer, accepted_answer}
 use Rattle.store.proofs.PlaceLaws.{kept_state, wiped}
 use Rattle.store.proofs.store.Store.idle_round.Goals as goal
 
-pub returns-in-err-check-idle : goal.returns-in-err-check-idle
-returns-in-err-check-idle g c =
-    let p = err_from_is_err_and c.from-residual.result c.from-residual.ensures.1 in
-    let r = refused_answer _ (idle (length c.args.area.now)) _ c.in-err-check-idle.ensures.is (number_pos _) in
+pub returns-in_err-check_idle : goal.returns-in_err-check_idle
+returns-in_err-check_idle g c =
+    let p = err_from_is_err_and c.from_residual.result c.from_residual.ensures.1 in
+    let r = refused_answer _ (idle (length c.args.area.now)) _ c.in_err-check_idle.ensures.is (number_pos _) in
     rw (p.1, p.2) (record { tells = r.0; leaves = sym r.1; clears = refl; refused = λ e. refl })
 
 pub rest-requires : goal.rest-requires
@@ -21,7 +21,7 @@ rest-requires g c =
     let m = c.args.self.now.maps in
     let k = g.F.Flash.card c.args.self.now.flash in
     let s = state_of m k in
-    let checked = c.in-ok-check-idle.ensures in
+    let checked = c.in_ok-check_idle.ensures in
     let can = can_idle s (length c.args.area.now) checked.is.1 in
     record {
       ready = maps_ready m k checked.sound (some_agreeing _ s checked.is.0);
@@ -34,7 +34,7 @@ pub wipe-requires : goal.wipe-requires
 wipe-requires g c =
     let k = g.F.Flash.card c.args.self.now.flash in
     let s = state_of c.args.self.now.maps k in
-    let can = can_idle s (length c.args.area.now) c.in-ok-check-idle.ensures.is.1 in
+    let can = can_idle s (length c.args.area.now) c.in_ok-check_idle.ensures.is.1 in
     omega (arith, can.area_long, ap (λ x. s.pages * x.size) c.geometry.ensures.is, c.rest.auto.area)
 
 pub returns : goal.returns
@@ -42,7 +42,7 @@ returns g c =
     let k = g.F.Flash.card c.args.self.now.flash in
     let s = state_of c.args.self.now.maps k in
     let call = idle (length c.args.area.now) in
-    let checked = c.in-ok-check-idle.ensures in
+    let checked = c.in_ok-check_idle.ensures in
     let rested = c.in-Ok.ensures in
     let ready = maps_ready c.args.self.now.maps k checked.sound (some_agreeing _ s checked.is.0) in
     let r = accepted_answer _ call s checked.is.0 checked.is.1 in
