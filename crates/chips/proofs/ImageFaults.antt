@@ -33,6 +33,12 @@ record GoodHeader (g : Geometry) (h : List ℕ) : Type 0 where
 header_good : (g : Geometry) (h : List ℕ) (b : ℕ) → header_fault g h b ≡ None → GoodHeader g h
 header_good g h b e = record { floor = grind (arith, nat_tests); count = grind (arith, nat_tests); spare = grind (arith, nat_tests) }
 
+-- all ghost fields of a chip
+pub record Kept (g : Geometry) (m : List ℕ) : Type 0 where
+  pub small : Small g
+  pub room : image_length g ≤ length m
+  pub whole : is_some (image_fault g m) ≡ false
+
 good_header_lem : (g : Geometry) (h : List ℕ) (b : ℕ) → GoodHeader g h → header_fault g h b ≡ None
 good_header_lem g h b good = grind (arith, nat_tests)
 
@@ -128,12 +134,12 @@ module _ (g : Geometry) (m : List ℕ) where
   pub chip_whole : is_some (image_fault g m) ≡ false → Whole g m
   chip_whole e = fault_whole (none_is (image_fault g m) e)
 
-  -- all ghost fields of a chip
-  pub chip_keeps : image_fault g m ≡ None → Small g × ((image_length g ≤ length m) × ((is_some (image_fault g m) ≡ false) × Unit {0}))
+  -- and all that it keeps follows from it
+  pub chip_keeps : image_fault g m ≡ None → Kept g m
   unfolding image_card
   chip_keeps e =
       let w = fault_whole e in
-      ((rw (image_count g m) at w.sound.blocks_high, w.sound.pages_high, w.sound.size_high), (w.room, (ap is_some e, tt)))
+      record { small = (rw (image_count g m) at w.sound.blocks_high, w.sound.pages_high, w.sound.size_high); room = w.room; whole = ap is_some e }
 
   -- its memory can be taken up again, and then shows the same card
   pub chip_again : (m' : List ℕ) → is_some (image_fault g m) ≡ false → m' ≡ m → ImageOf (geometry_of (image_card g m)) m' (image_card g m)

@@ -25,7 +25,7 @@ invariant_of-maps g c =
     let m = c.args.maps.now in
     let k = g.F.Flash.card c.args.flash.now in
     let whole = store_whole m k c.args.block.0 c.args.page c.args.bytes.now c.requires c.in-Some.place (sym c.in-Some.ensures) _ _ c.region_block.ensures refl (g.F.Flash.card c.program.new.self) c.in_ok-program.ensures.1 c.append.new.self c.append.ensures.slots c.append.ensures.shaped in
-    ((m.sizes.0, length-set _ _ _ ∙ m.sizes.1), (m.limits, (m.small, (m.spare, (∣ whole ∣₁, tt)))))
+    record { sizes = (m.sizes.0, length-set _ _ _ ∙ m.sizes.1); limits = m.limits; small = m.small; spare = m.spare; whole = ∣ whole ∣₁ }
 
 pub returns : goal.returns
 returns g c =

@@ -27,7 +27,13 @@ invariant_of-maps g c =
     let copies = c.in_ok-copies.ensures in
     let blank = c.empty.ensures in
     let whole = collected_whole m k c.args.victim (length c.args.page.now) c.requires _ refl _ _ c.region_block-from.ensures c.region_block-to.ensures (g.F.Flash.card c.copy_live.new.flash) copies.1.1 c.in_ok-copies.copies c.empty.result copies.1.0 blank.slots (g.F.Flash.card c.erase.new.self) c.in_ok-erase.ensures.1 copies.0 blank.shaped in
-    ((m.sizes.0, length-set _ _ _ ∙ length-set _ _ _ ∙ m.sizes.1), (m.limits, (m.small, (c.requires.inside, (∣ whole ∣₁, tt)))))
+    record {
+      sizes = (m.sizes.0, length-set _ _ _ ∙ length-set _ _ _ ∙ m.sizes.1);
+      limits = m.limits;
+      small = m.small;
+      spare = c.requires.inside;
+      whole = ∣ whole ∣₁;
+    }
 
 pub returns : goal.returns
 returns g c =

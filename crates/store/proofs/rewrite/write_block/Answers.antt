@@ -54,5 +54,5 @@ returns g c =
     let shape = cleared_as k₀ k₁ c.args.block.0 c.requires.inside done.1 in
     let pages = ap (λ x. x.pages) c.geometry-pages.ensures.is ∙ ap (λ x. x.pages) shape in
     let size = ap (λ x. x.size) c.geometry-size.ensures.is ∙ ap (λ x. x.size) shape in
-    let all : c.loop-page.page ≡ k₀.shape.pages = omega (arith, pages, c.loop-page-test.false, c.loop-page.auto.page_end) in
+    let all : c.loop-page.page ≡ k₀.shape.pages = omega (arith, pages, c.loop-page-test.false, c.loop-page.auto.page-end) in
     (done.0, fill_all k₀ k₁ (g.F.Flash.card c.loop-page.flash) c.args.block.0 c.args.set.0 c.geometry-size.result.size c.loop-page.page c.args.area.now c.loop-page.invariant.0 done.1 size all)

@@ -56,7 +56,8 @@ invariant_of-self c =
     let image = erase_image g m c.clear.new.self.bytes.now _ _ _ _ _ can
     c.page_start-from.ensures c.block_start.ensures c.erase_count-erases.ensures c.header_bytes-header.ensures c.clear.ensures
     c.put.new.self.bytes.now c.put.ensures (chip_whole g m s.whole) in
-    chip_keeps g c.put.new.self.bytes.now image.whole
+    let kept = chip_keeps g c.put.new.self.bytes.now image.whole in
+    record { small = kept.small; room = kept.room; whole = kept.whole }
 
 pub returns : goal.returns
 returns c =

@@ -47,7 +47,8 @@ invariant_of-self c =
     let image = program_image g m c.put.new.self.bytes.now _ _ _ _ _ _ _ can
     c.page_start-to.ensures c.block_start.ensures c.erase_count.ensures c.header_bytes-header.ensures c.put.ensures
     c.put-2.new.self.bytes.now c.put-2.ensures (chip_whole g m s.whole) in
-    chip_keeps g c.put-2.new.self.bytes.now image.whole
+    let kept = chip_keeps g c.put-2.new.self.bytes.now image.whole in
+    record { small = kept.small; room = kept.room; whole = kept.whole }
 
 pub returns : goal.returns
 returns c =

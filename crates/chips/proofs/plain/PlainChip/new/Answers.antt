@@ -4,7 +4,8 @@ use Rattle.chips.proofs.PlainLaws.{plain_none, none_sound, fault_card, fault_mem
 use Rattle.chips.proofs.plain.PlainChip.new.Goals as goal
 
 pub invariant_of-result : goal.invariant_of-result
-invariant_of-result c = (refl, ((omega arith, omega arith, omega arith), (omega arith, (∣ none_sound _ _ ∣₁, tt))))
+invariant_of-result c =
+    record { entries = refl; small = (omega arith, omega arith, omega arith); room = omega arith; whole = ∣ none_sound _ _ ∣₁ }
 
 pub returns-in-Some : goal.returns-in-Some
 returns-in-Some c =
@@ -21,16 +22,13 @@ invariant_of-result-2 c =
     let g = c.args.geometry in
     let m = c.args.memory.now in
     let h : plain_fault g (length m) ≡ None = sym c.in_default.ensures in
-    let f = plain_fits g (length m) h in (
-      refl,
-      (
-        (f.0.blocks_high, f.0.pages_high, f.0.size_high),
-        (
-          plain_new_room g m c.clear.new.self.bytes.now h c.clear.ensures,
-          (plain_new_sound g m c.clear.new.self.bytes.now h c.clear.ensures, tt),
-        ),
-      ),
-    )
+    let f = plain_fits g (length m) h in
+    record {
+      entries = refl;
+      small = (f.0.blocks_high, f.0.pages_high, f.0.size_high);
+      room = plain_new_room g m c.clear.new.self.bytes.now h c.clear.ensures;
+      whole = plain_new_sound g m c.clear.new.self.bytes.now h c.clear.ensures;
+    }
 
 pub returns : goal.returns
 returns c =

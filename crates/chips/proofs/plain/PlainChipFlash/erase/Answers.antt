@@ -27,19 +27,13 @@ overflow_add-self c =
 pub invariant_of-self : goal.invariant_of-self
 invariant_of-self c =
     let s = c.args.self.now in
-    let can = plain_can_erase s.geometry s.memory.bytes.now s.table _ _ c.erase_count.ensures c.in_ok-check_erase.ensures in (
-      length-set s.table _ _ ∙ s.entries,
-      (
-        s.small,
-        (
-          plain_clear_room s.geometry s.memory.bytes.now _ s.table s.room s.entries s.small.0 _ can c.clear.ensures,
-          (
-            plain_clear_sound s.geometry s.memory.bytes.now _ s.table s.room s.entries s.small.0 _ can c.clear.ensures s.whole,
-            tt,
-          ),
-        ),
-      ),
-    )
+    let can = plain_can_erase s.geometry s.memory.bytes.now s.table _ _ c.erase_count.ensures c.in_ok-check_erase.ensures in
+    record {
+      entries = length-set s.table _ _ ∙ s.entries;
+      small = s.small;
+      room = plain_clear_room s.geometry s.memory.bytes.now _ s.table s.room s.entries s.small.0 _ can c.clear.ensures;
+      whole = plain_clear_sound s.geometry s.memory.bytes.now _ s.table s.room s.entries s.small.0 _ can c.clear.ensures s.whole;
+    }
 
 pub returns : goal.returns
 returns c =

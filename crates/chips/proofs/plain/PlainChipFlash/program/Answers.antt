@@ -20,19 +20,13 @@ put-requires c =
 pub invariant_of-self : goal.invariant_of-self
 invariant_of-self c =
     let s = c.args.self.now in
-    let can = plain_can_program s.geometry s.memory.bytes.now s.table _ _ _ _ c.floor.ensures c.in_ok-check_program.ensures in (
-      length-set s.table _ _ ∙ s.entries,
-      (
-        s.small,
-        (
-          plain_put_room s.geometry s.memory.bytes.now _ s.table s.room s.entries s.small.0 _ _ _ can c.put.ensures,
-          (
-            plain_put_sound s.geometry s.memory.bytes.now _ s.table s.room s.entries s.small.0 _ _ _ can c.put.ensures s.whole,
-            tt,
-          ),
-        ),
-      ),
-    )
+    let can = plain_can_program s.geometry s.memory.bytes.now s.table _ _ _ _ c.floor.ensures c.in_ok-check_program.ensures in
+    record {
+      entries = length-set s.table _ _ ∙ s.entries;
+      small = s.small;
+      room = plain_put_room s.geometry s.memory.bytes.now _ s.table s.room s.entries s.small.0 _ _ _ can c.put.ensures;
+      whole = plain_put_sound s.geometry s.memory.bytes.now _ s.table s.room s.entries s.small.0 _ _ _ can c.put.ensures s.whole;
+    }
 
 pub returns : goal.returns
 returns c =

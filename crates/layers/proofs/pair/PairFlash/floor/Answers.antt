@@ -24,4 +24,4 @@ returns-in-Right g c =
     let l = g.L.Flash.card c.args.self.now.left in
     let r = g.R.Flash.card c.args.self.now.right in
     let seen = seen_right l r c.args.block.0 c.in-Some.ensures c.in-Right.is in
-    seen_floor seen c.floor_in-Right.result c.floor_in-Right.ensures
+    seen_floor seen c.floor-in-Right.result c.floor-in-Right.ensures

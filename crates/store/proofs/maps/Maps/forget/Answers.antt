@@ -28,10 +28,14 @@ invariant_of-self c =
     let b = c.logical_block-number.result.0 in
     let i = c.args.place.2 in
     let in_data = of_data m c.args.place.0 c.args.place.1.0 i b c.in-BlockMapped.is c.requires c.logical_block-number.ensures in
-    let is = left_is m b i _ c.with.result c.without.result in_data c.with.ensures c.without.ensures in (
-      (length-set m.sets b c.without.result ∙ m.sizes.0, m.sizes.1),
-      (m.limits, (m.small, (m.spare, (∣ forgotten_set m b i c.without.result is ∣₁, tt)))),
-    )
+    let is = left_is m b i _ c.with.result c.without.result in_data c.with.ensures c.without.ensures in
+    record {
+      sizes = (length-set m.sets b c.without.result ∙ m.sizes.0, m.sizes.1);
+      limits = m.limits;
+      small = m.small;
+      spare = m.spare;
+      whole = ∣ forgotten_set m b i c.without.result is ∣₁;
+    }
 
 pub returns-in-BlockMapped : goal.returns-in-BlockMapped
 returns-in-BlockMapped c = λ k d j e.
@@ -75,10 +79,14 @@ invariant_of-self-in-PageMapped c =
     let r = c.region_place-row.result in
     let i = c.args.place.2 in
     let b = c.mark.new.self in
-    let at = of_region m c.args.place.0 c.args.place.1.0 i r c.in-PageMapped.is c.requires c.region_place-row.ensures in (
-      (m.sizes.0, length-set m.table r b ∙ m.sizes.1),
-      (m.limits, (m.small, (m.spare, (∣ forgotten_slot m r i b at.inside at.slot c.mark.ensures.slots c.mark.ensures.shaped ∣₁, tt)))),
-    )
+    let at = of_region m c.args.place.0 c.args.place.1.0 i r c.in-PageMapped.is c.requires c.region_place-row.ensures in
+    record {
+      sizes = (m.sizes.0, length-set m.table r b ∙ m.sizes.1);
+      limits = m.limits;
+      small = m.small;
+      spare = m.spare;
+      whole = ∣ forgotten_slot m r i b at.inside at.slot c.mark.ensures.slots c.mark.ensures.shaped ∣₁;
+    }
 
 pub returns-in-PageMapped : goal.returns-in-PageMapped
 returns-in-PageMapped c = λ k d j e.

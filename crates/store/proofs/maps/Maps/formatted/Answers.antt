@@ -8,13 +8,14 @@ pub invariant_of-result : goal.invariant_of-result
 invariant_of-result c =
     let p = c.args.plan in
     let n = c.args.pages in
-    let l = plan_limits p n c.requires.0 in (
-      (refl, refl),
-      (
-        (l.some_data, l.few_data, l.two-blocks, l.few_blocks),
-        ((l.threshold, l.idle, c.requires.1), (omega (arith, l.two-blocks), (∣ whole_empty p c.empty.result c.empty.ensures.slots c.empty.ensures.shaped n l.few_data l.two-blocks l.few_blocks ∣₁, tt))),
-      ),
-    )
+    let l = plan_limits p n c.requires.0 in
+    record {
+      sizes = (refl, refl);
+      limits = (l.some_data, l.few_data, l.two_blocks, l.few_blocks);
+      small = (l.threshold, l.idle, c.requires.1);
+      spare = omega (arith, l.two_blocks);
+      whole = ∣ whole_empty p c.empty.result c.empty.ensures.slots c.empty.ensures.shaped n l.few_data l.two_blocks l.few_blocks ∣₁;
+    }
 
 pub returns : goal.returns
 returns c = λ k.

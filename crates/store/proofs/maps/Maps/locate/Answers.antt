@@ -1,6 +1,6 @@
 -- The block map is asked first, then the slots one by one.
 use Rattle.std.proofs.Common.{◌≡◌, ℕ, ◌+◌, ◌-◌, ◌<◌, Bool, true, false, [], length, get_or, Some, None, Option, sym, refl, ap, ◌∙◌, subst, arith, below_more}
-use Rattle.std.proofs.lemmas.Bool.{false≢true}
+use Rattle.std.proofs.lemmas.Bool.{eqb-true, eqb-false}
 use Rattle.rules.specs.Sets.{has}
 use Rattle.rules.specs.State.{dead, is_at, slot_for}
 use Rattle.store.specs.declared.maps.Maps.{Maps}
@@ -50,7 +50,7 @@ loop-slot-preserved c =
           ap (is_at d i) (slot_at b slot _ _ shaped lt w.in-Live.is)
           ∙ elim w.else-eq.branch [
             | else-eq-via-then-eq+else-number-page w' ↦ at_other_page d i _ _ w'.if-number-page.false
-            | else-eq-via-else-eq w' ↦ at_other_block d i _ _ (λ q. false≢true (w'.if-eq.ensures.1 q))
+            | else-eq-via-else-eq w' ↦ at_other_block d i _ _ (eqb-false _ _ (sym w'.if-eq.ensures))
           ]
       | in_default w ↦ ap (is_at d i) (slot_at b slot _ _ shaped lt w.in_default.is) ∙ at_dead d i
     ] in
@@ -97,7 +97,7 @@ returns-then-number-page c =
     let in_row : slot < length (get_or (table_of m.plan m.table) r []) = omega (arith, row_length m r c.search-test.true) in
     let here : is_at d i (get_or (slots_of b) slot dead) ≡ true =
     ap (is_at d i) (slot_at b slot _ _ shaped c.loop-slot-test.true c.in-Live.is)
-    ∙ at_true d i _ _ (c.if-eq.ensures.0 refl) c.if-number-page.true in
+    ∙ at_true d i _ _ (eqb-true _ _ (sym c.if-eq.ensures)) c.if-number-page.true in
     let first : slot_for d i (get_or (table_of m.plan m.table) r []) ≡ Some slot =
     ap (slot_for d i) (row_at_lem m r c.search-test.true)
     ∙ slot_found d i (slots_of b) slot (omega (arith, slots_length b shaped)) c.loop-slot.invariant.1 here in

@@ -24,10 +24,14 @@ invariant_of-self c =
     let g = c.args.pages in
     let e = c.retire.ensures no_card in
     let pages : m.pages ≡ m₀.pages = ap (λ (s : State). s.pages) e in
-    let none : (i : ℕ) → named_in d i (table_of m.plan m.table) ≡ 0 = λ i. ap (λ (s : State). named_in d i s.table) e ∙ unnamed d i (table_of m₀.plan m₀.table) in (
-      (length-set m.sets d g ∙ m.sizes.0, m.sizes.1),
-      (m.limits, (m.small, (m.spare, (∣ whole_set m d g (rw pages c.requires.1) (λ i. omega (arith, none i, in_set_le g.0 i)) ∣₁, tt)))),
-    )
+    let none : (i : ℕ) → named_in d i (table_of m.plan m.table) ≡ 0 = λ i. ap (λ (s : State). named_in d i s.table) e ∙ unnamed d i (table_of m₀.plan m₀.table) in
+    record {
+      sizes = (length-set m.sets d g ∙ m.sizes.0, m.sizes.1);
+      limits = m.limits;
+      small = m.small;
+      spare = m.spare;
+      whole = ∣ whole_set m d g (rw pages c.requires.1) (λ i. omega (arith, none i, in_set_le g.0 i)) ∣₁;
+    }
 
 pub returns : goal.returns
 returns c = λ k.

@@ -43,10 +43,14 @@ invariant_of-self c =
     let lt = its_region d r c.args.self.now m c.loop-place.invariant c.loop-place-test.true in
     let less : Lesser m.plan.data m.pages xs (slots_of b) =
     subst (Lesser m.plan.data m.pages xs) (sym (row_is d r m b lt c.retire.ensures.slots))
-    (lesser_retired m.plan.data m.pages (of_block d) xs (row_filed m r lt)) in (
-      (m.sizes.0, length-set m.table r b ∙ m.sizes.1),
-      (m.limits, (m.small, (m.spare, (∣ whole_row m r b lt c.retire.ensures.shaped less ∣₁, tt)))),
-    )
+    (lesser_retired m.plan.data m.pages (of_block d) xs (row_filed m r lt)) in
+    record {
+      sizes = (m.sizes.0, length-set m.table r b ∙ m.sizes.1);
+      limits = m.limits;
+      small = m.small;
+      spare = m.spare;
+      whole = ∣ whole_row m r b lt c.retire.ensures.shaped less ∣₁;
+    }
 
 pub loop-place-preserved : goal.loop-place-preserved
 loop-place-preserved c = λ k.

@@ -1,6 +1,6 @@
 -- Each turn looks at one slot more: it dies if it is live and of the block.
 use Rattle.std.proofs.Common.{◌≡◌, ◌<◌, length, get_or, set, sym, refl, ap, ◌∙◌, arith}
-use Rattle.std.proofs.lemmas.Bool.{false≢true}
+use Rattle.std.proofs.lemmas.Bool.{eqb-true, eqb-false}
 use Rattle.rules.specs.State.{dead}
 use Rattle.rules.specs.Moves.{retire, of_block}
 use Rattle.store.specs.View.{slots_of}
@@ -28,12 +28,12 @@ loop-i-preserved c =
     let x = get_or (slots_of b) i dead in
     elim c.match-slot.branch [
       | in-Live+then-eq w ↦
-          let is : f x ≡ dead = ap f (slot_at b i _ _ inv.0 lt w.in-Live.is) ∙ retire_own d _ _ (w.if-eq.ensures.0 refl) in
+          let is : f x ≡ dead = ap f (slot_at b i _ _ inv.0 lt w.in-Live.is) ∙ retire_own d _ _ (eqb-true _ _ (sym w.if-eq.ensures)) in
           rw w.self-is
           (w.mark.ensures.shaped, w.mark.ensures.slots ∙ ap (set (slots_of b) i) (sym is) ∙ turned_more f (slots_of a) (slots_of b) i dead long₀ long inv.1)
       | in-Live+else-eq w ↦
           let at = slot_at b i _ _ inv.0 lt w.in-Live.is in
-          let is : f x ≡ x = ap f at ∙ retire_other d _ _ (λ q. false≢true (w.if-eq.ensures.1 q)) ∙ sym at in
+          let is : f x ≡ x = ap f at ∙ retire_other d _ _ (eqb-false _ _ (sym w.if-eq.ensures)) ∙ sym at in
           rw w.self-is (inv.0, turned_same f (slots_of a) (slots_of b) i dead long₀ long inv.1 is)
       | in_default w ↦
           let at = slot_at b i _ _ inv.0 lt w.in_default.is in
