@@ -112,5 +112,5 @@ fn image_taken_up_again(rt: HostRuntime) {
     assert_eq!(rt; again.floor(PhysicalBlock(1)), 2);
     assert_eq!(rt; again.erase_count(PhysicalBlock(0)), 1);
     assert_eq!(rt; again.read(PhysicalBlock(1), 1, &mut page), Ok(()));
-    assert_eq!(rt; &page[0..4], b"page");
+    assert_eq!(rt; &page[0..4], b"page".as_slice());
 }

@@ -21,7 +21,7 @@ const FIVE: Geometry = Geometry { blocks: 5, ..THREE };
 fn holds<F: Flash>(rt: &impl Abort, flash: &F, block: PhysicalBlock, bytes: &[u8; 4]) {
     let mut page = [0u8; 4];
     assert_eq!(rt; flash.read(block, 0, &mut page), Ok(()));
-    assert_eq!(rt; &page[0..4], bytes);
+    assert_eq!(rt; &page[0..4], bytes.as_slice());
 }
 
 // Block 5 of a pair is block 2 of the right one, and block 4 is block 2 of the left one.

@@ -19,9 +19,9 @@ fn memory_is_filled_and_given_back(rt: HostRuntime) {
     assert_eq!(rt; chip.program(PhysicalBlock(1), 1, b"last"), Ok(()));
     let bytes = chip.release();
     assert!(rt; bytes.len() == 18);
-    assert_eq!(rt; &bytes[0..12], &[255u8; 12]);
-    assert_eq!(rt; &bytes[12..16], b"last");
-    assert_eq!(rt; &bytes[16..18], &[7u8; 2]);
+    assert_eq!(rt; &bytes[0..12], [255u8; 12].as_slice());
+    assert_eq!(rt; &bytes[12..16], b"last".as_slice());
+    assert_eq!(rt; &bytes[16..18], [7u8; 2].as_slice());
 }
 
 // Where there is a fault the chip has no blocks, and the memory stays.
@@ -41,7 +41,7 @@ fn faulty_making_leaves_the_memory(rt: HostRuntime) {
     assert_eq!(rt; chip.floor(PhysicalBlock(0)), 0);
     let bytes = chip.release();
     assert!(rt; bytes.len() == 15);
-    assert_eq!(rt; &bytes[0..15], &[7u8; 15]);
+    assert_eq!(rt; &bytes[0..15], [7u8; 15].as_slice());
 }
 
 // Each refusal of a chip; none of them changes the page that was programmed.
@@ -84,7 +84,7 @@ fn refusals_by_number(rt: HostRuntime) {
         Err(Refusal::WrongLength)
     );
     assert_eq!(rt; chip.read(PhysicalBlock(0), 0, &mut page), Ok(()));
-    assert_eq!(rt; &page[0..4], b"page");
+    assert_eq!(rt; &page[0..4], b"page".as_slice());
 }
 
 // A block is erased as often as its endurance says, and each erase makes it blank.
@@ -99,7 +99,7 @@ fn erases_up_to_the_endurance(rt: HostRuntime) {
     assert_eq!(rt; chip.floor(PhysicalBlock(1)), 0);
     assert_eq!(rt; chip.erase_count(PhysicalBlock(1)), 1);
     assert_eq!(rt; chip.read(PhysicalBlock(1), 1, &mut page), Ok(()));
-    assert_eq!(rt; &page[0..4], &[255u8; 4]);
+    assert_eq!(rt; &page[0..4], [255u8; 4].as_slice());
     assert_eq!(rt; chip.erase(PhysicalBlock(1)), Err(Refusal::WornOut));
     assert_eq!(rt; chip.erase(PhysicalBlock(2)), Err(Refusal::NoSuchBlock));
 }

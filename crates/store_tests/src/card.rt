@@ -64,7 +64,7 @@ pub(crate) fn reads<F: Flash>(
         store.read(LogicalBlock(block), page, &mut into),
         Ok(region)
     );
-    assert_eq!(rt; &into[0..4], &[byte; 4]);
+    assert_eq!(rt; &into[0..4], [byte; 4].as_slice());
 }
 
 // Checks that a page of a block is not held, and that the buffer stays.
@@ -74,7 +74,7 @@ pub(crate) fn lacks<F: Flash>(rt: &impl Abort, store: &Store<F>, block: u8, page
         store.read(LogicalBlock(block), page, &mut into),
         Err(StoreRefusal::NotHeld)
     );
-    assert_eq!(rt; &into[0..4], &[7u8; 4]);
+    assert_eq!(rt; &into[0..4], [7u8; 4].as_slice());
 }
 
 // Formats a store by the trial plan and fills its page-mapped region: each page of both blocks once.

@@ -164,7 +164,7 @@ fn area_wiped<F: Flash + Drop>(rt: &impl Abort, flash: F) {
         store.flush(LogicalBlock(0), PageSet(14), &[9; 12], &mut area),
         Ok(told(Region::BlockMapped, 0, 0, 0))
     );
-    assert_eq!(rt; &area[0..16], &[0u8; 16]);
+    assert_eq!(rt; &area[0..16], [0u8; 16].as_slice());
     assert_eq!(rt; area[16], 7);
 }
 
@@ -189,7 +189,7 @@ fn refuses<F: Flash>(
         Err(refusal) => refusal.number(),
     };
     assert_eq!(rt; answer, number);
-    assert_eq!(rt; &area[0..15], &[7u8; 15]);
+    assert_eq!(rt; &area[0..15], [7u8; 15].as_slice());
 }
 
 // Each refusal of a flush, the first one told where there are more.

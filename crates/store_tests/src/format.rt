@@ -143,7 +143,7 @@ fn not_formatted<F: Flash + Drop>(rt: &impl Abort, flash: F) {
     );
     assert_eq!(rt; store.plan(), None);
     assert_eq!(rt; StoreRefusal::Unformatted.number(), 6);
-    assert_eq!(rt; &area[0..16], &[7u8; 16]);
+    assert_eq!(rt; &area[0..16], [7u8; 16].as_slice());
 }
 
 #[test]

@@ -25,7 +25,7 @@ fn rests<F: Flash>(
         merges,
     };
     assert_eq!(rt; store.idle_round(&mut area), Ok(report));
-    assert_eq!(rt; &area[0..16], &[0u8; 16]);
+    assert_eq!(rt; &area[0..16], [0u8; 16].as_slice());
     assert_eq!(rt; area[16], 7);
 }
 

@@ -21,15 +21,15 @@ returns-then-left-lt10-2 c =
 
 pub returns-then-left-wanted : goal.returns-then-left-wanted
 returns-then-left-wanted c =
-    let n : c.len.result * c.args.size ≡ pages_in 64 c.set_at-pages_in-Flush.result.0 * c.args.size = ap (λ k. k * c.args.size) c.len.ensures in
+    let n : c.len.result * c.args.size ≡ pages_in 64 c.set_at-pages-in-Flush.result.0 * c.args.size = ap (λ k. k * c.args.size) c.len.ensures in
     sym
     (flush_not c.args.list.now c.args.at c.args.size _ c.in_ok-head.head.page
-    (omega (arith, data_is c.args.list.now c.args.at c.args.size c.set_at-pages_in-Flush.result.0 c.set_at-pages_in-Flush.ensures))) ∙
+    (omega (arith, data_is c.args.list.now c.args.at c.args.size c.set_at-pages-in-Flush.result.0 c.set_at-pages-in-Flush.ensures))) ∙
     after_head_lem c.args.list.now c.args.at c.args.size c.in_ok-head.head Flush c.in_ok-head.ensures.is c.in-Flush.is
 
 pub returns-else-left-wanted : goal.returns-else-left-wanted
 returns-else-left-wanted c =
-    let n : c.len.result * c.args.size ≡ pages_in 64 c.set_at-pages_in-Flush.result.0 * c.args.size = ap (λ k. k * c.args.size) c.len.ensures in
-    flush_so c.args.list.now c.args.at c.args.size _ c.in_ok-head.head.page c.set_at-pages_in-Flush.result.0 _ _
-    c.set_at-pages_in-Flush.ensures (omega arith) (omega arith) (omega arith) ∙
+    let n : c.len.result * c.args.size ≡ pages_in 64 c.set_at-pages-in-Flush.result.0 * c.args.size = ap (λ k. k * c.args.size) c.len.ensures in
+    flush_so c.args.list.now c.args.at c.args.size _ c.in_ok-head.head.page c.set_at-pages-in-Flush.result.0 _ _
+    c.set_at-pages-in-Flush.ensures (omega arith) (omega arith) (omega arith) ∙
     after_head_lem c.args.list.now c.args.at c.args.size c.in_ok-head.head Flush c.in_ok-head.ensures.is c.in-Flush.is
