@@ -10,7 +10,7 @@ pub loop-rest-preserved : goal.loop-rest-preserved
 loop-rest-preserved c =
     let rest = c.loop-rest.rest.now in
     let a = c.from_bytes-answer.result in
-    let h : c.min-end.result ≡ min (4 + page_length a) (length rest) = c.min-end.ensures ∙ ap (λ n. min (4 + n) (length rest)) c.page_length_lem.ensures in
+    let h : c.min-end.result ≡ min (4 + page_length a) (length rest) = c.min-end.ensures ∙ ap (λ n. min (4 + n) (length rest)) c.page_length.ensures in
     unprinted_on _ c.args.answers.now _ rest c.loop-rest.invariant a _ _ _ (omega arith) c.from_bytes-answer.ensures (part_page rest (page_length a) c.min-end.result h) (part_rest rest (page_length a) c.min-end.result h)
     c.in_ok-push_line.ensures
 
