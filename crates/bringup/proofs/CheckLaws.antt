@@ -1,12 +1,11 @@
 -- A pattern that is programmed reads back, and each step of the check leaves a flash on which the next can be made.
-use Rattle.std.proofs.Common.{◌≡◌, ℕ, zero, suc, ◌+◌, ◌-◌, ◌<◌, ◌≤◌, Bool, true, List, [], map, length, get_or, take, Some, None, Decides, Option, sym, refl, ap, ◌∙◌, add-one, arith}
-use Rattle.std.specs.List.{range_with_len}
+use Rattle.std.proofs.Common.{◌≡◌, ℕ, zero, suc, ◌+◌, ◌-◌, ◌<◌, ◌≤◌, Bool, true, List, length, take, None, Decides, sym, refl, ap, ◌∙◌, add-one, arith}
 use Rattle.std.proofs.lemmas.List.{length-take}
 use Rattle.std.proofs.lemmas.List.FromFn.{length-map-range_with_len}
-use Rattle.flash.specs.Meaning.{Card, Block, block_at, block_count, page_at, floor_at, erase_count_at, programmed, erased, Sound}
-use Rattle.flash.specs.Refusals.{program_refusal, read_refusal, erase_refusal}
+use Rattle.flash.specs.Meaning.{Card, block_at, block_count, page_at, floor_at, programmed, erased, Sound}
+use Rattle.flash.specs.Refusals.{read_refusal, erase_refusal}
 use Rattle.flash.proofs.CardLaws.{programmed_shape, programmed_count, programmed_page, programmed_floor, erased_shape, erased_count, erased_floor}
-use Rattle.flash.proofs.RefusalLaws.{CanProgram, CanErase, can_program, can_erase, read_accepted}
+use Rattle.flash.proofs.RefusalLaws.{CanProgram, can_erase, read_accepted}
 use Rattle.flash.proofs.SoundLaws.{programmed_sound, erased_sound}
 use Rattle.bringup.specs.Pattern.{pattern, pattern_byte}
 use Rattle.bringup.specs.declared.report.BlockOutcome.{BlockOutcome}

@@ -1,7 +1,7 @@
 -- The blocks of a flash checked one after the other: the flash stays sound, and the summary stays small.
-use Rattle.std.proofs.Common.{◌≡◌, ℕ, zero, suc, ◌+◌, ◌*◌, ◌<◌, ◌≤◌, Bool, true, false, cond, ltb, List, set, sym, refl, ap, ◌∙◌, add-one, arith}
+use Rattle.std.proofs.Common.{◌≡◌, ℕ, zero, suc, ◌+◌, ◌*◌, ◌<◌, ◌≤◌, List, set, refl, ap, ◌∙◌, add-one, arith}
 use Rattle.std.proofs.lemmas.Bool.Decides.{nat_tests}
-use Rattle.flash.specs.Meaning.{Card, block_count, floor_at, erase_count_at, erased, Sound}
+use Rattle.flash.specs.Meaning.{Card, block_count, floor_at, erased, Sound}
 use Rattle.flash.proofs.CardLaws.{erased_shape, erased_count, erased_floor}
 use Rattle.flash.proofs.RefusalLaws.{CanErase}
 use Rattle.flash.proofs.SoundLaws.{erased_sound}
@@ -9,7 +9,7 @@ use Rattle.bringup.specs.declared.report.BlockOutcome.{BlockOutcome}
 use Rattle.bringup.specs.declared.report.BlockOutcome.TheVariants.{Worn, Programmed, ErasedFirst}
 use Rattle.bringup.specs.declared.report.Summary.{Summary}
 use Rattle.bringup.specs.Checked.{patterned, outcome_of, checked_as, checked_below, noted_below, added_as, summary_below, Small}
-use Rattle.bringup.proofs.CheckLaws.{Patterning, patterning}
+use Rattle.bringup.proofs.CheckLaws.{patterning}
 
 -- a sound card with the same measures
 pub record Alike (c d : Card) : Type 0 where

@@ -1,5 +1,5 @@
 -- The five trials of a probe, each on a flash that the one before left as it was.
-use Rattle.std.proofs.Common.{◌≡◌, ℕ, ◌-◌, ◌≤◌, List, [], ◌∷◌, length, take, Option, sym, refl, ap, ◌∙◌, arith}
+use Rattle.std.proofs.Common.{◌≡◌, ℕ, ◌-◌, ◌≤◌, List, [], ◌∷◌, length, take, Option, refl, arith}
 use Rattle.std.proofs.lemmas.List.{length-take}
 use Rattle.flash.specs.Meaning.{Card, block_count}
 use Rattle.flash.specs.Refusals.{erase_refusal, read_refusal}

@@ -1,5 +1,5 @@
 -- What a bring-up check leaves on a flash, and what it tells.
-use Rattle.std.specs.Prelude.{ℕ, zero, suc, ◌+◌, ◌<◌, Bool, true, false, cond, ◌&&◌, List, nat_lt, slice_set}
+use Rattle.std.specs.Prelude.{ℕ, zero, suc, ◌+◌, ◌<◌, cond, List, nat_lt, slice_set}
 use Rattle.flash.specs.Meaning.{Card, floor_at, erase_count_at, programmed, erased}
 use Rattle.bringup.specs.declared.report.BlockOutcome.{BlockOutcome}
 use Rattle.bringup.specs.declared.report.BlockOutcome.TheVariants.{Worn, Programmed, ErasedFirst}

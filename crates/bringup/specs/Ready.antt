@@ -1,6 +1,6 @@
 -- What the steps of a bring-up check ask of the flash and of their buffers.
-use Rattle.std.specs.Prelude.{◌≡◌, ℕ, ◌<◌, ◌≤◌}
-use Rattle.flash.specs.Meaning.{Card, block_count, floor_at, Sound}
+use Rattle.std.specs.Prelude.{◌≡◌, ℕ, ◌<◌}
+use Rattle.flash.specs.Meaning.{Card, block_count, Sound}
 
 -- block b of a sound card, and two buffers as long as a page
 pub record Buffered (c : Card) (b written found : ℕ) : Type 0 where

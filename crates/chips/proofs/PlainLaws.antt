@@ -1,12 +1,12 @@
 -- What the memory and the table of a plain chip mean after each of its writes.
-use Rattle.std.proofs.Common.{◌≡◌, ℕ, ◌+◌, ◌*◌, ◌^◌, ◌<◌, ◌≤◌, ◌≢◌, List, [], ◌++◌, map, length, get_or, take, drop, set, replicate, Some, None, Option, sym, refl, ap, ◌∙◌, inl, inr, ⊎_elim, mul_assoc, add-mul, arith}
+use Rattle.std.proofs.Common.{◌≡◌, ℕ, ◌+◌, ◌*◌, ◌^◌, ◌<◌, ◌≤◌, ◌≢◌, List, [], map, length, get_or, take, drop, set, replicate, Some, None, sym, refl, ap, ◌∙◌, inl, inr, ⊎_elim, mul_assoc, add-mul, arith}
 use borrow.Rule.Slice.PartMut.{put_mid}
 use Rattle.std.specs.List.{range_with_len}
 use Rattle.std.proofs.lemmas.List.{get_or-set_same, get_or-set_other, length-replicate, get_or-replicate}
 use Rattle.std.proofs.lemmas.Bool.Decides.{nat_tests}
 use Rattle.flash.specs.declared.geometry.Geometry.{Geometry}
 use Rattle.flash.specs.declared.making.MakingFault.{MakingFault}
-use Rattle.flash.specs.Meaning.{Card, Shape, Block, absent, blank_block, blank_card, no_card, block_at, block_count, page_at, floor_at, erase_count_at, geometry_of, with_block, programmed, erased, Sound}
+use Rattle.flash.specs.Meaning.{Block, absent, blank_block, blank_card, no_card, block_at, block_count, page_at, floor_at, erase_count_at, geometry_of, with_block, programmed, erased, Sound}
 use Rattle.flash.specs.Refusals.{why_not_read, why_not_program, why_not_erase}
 use Rattle.flash.proofs.RefusalLaws.{CanRead, CanProgram, CanErase}
 use Rattle.flash.proofs.SoundLaws.{Limited, limited, blank_card_sound, no_card_sound, programmed_sound, erased_sound, open_sound}

@@ -1,8 +1,7 @@
 -- What program and erase change of a card, and what they leave: code above uses these laws and not the definitions.
-use Rattle.std.proofs.Common.{◌≡◌, ℕ, ◌+◌, ◌<◌, ◌≤◌, ◌≢◌, ◌⊎◌, List, [], length, get_or, set, refl, ap, ◌∙◌, ⊎_elim}
+use Rattle.std.proofs.Common.{◌≡◌, ℕ, ◌+◌, ◌<◌, ◌≢◌, List, [], length, get_or, set, refl, ap, ◌∙◌, ⊎_elim}
 use Rattle.std.proofs.lemmas.List.{length-set, get_or-set_same, get_or-set_other, get_or-replicate}
 use Rattle.std.proofs.lemmas.Bool.{cases_eq}
-use Rattle.flash.specs.declared.geometry.Geometry.{Geometry}
 use Rattle.flash.specs.Meaning.{Card, Shape, Block, absent, blank_page, blank_block, block_at, block_count, page_at, floor_at, erase_count_at, geometry_of, programmed, erased}
 
 -- two cards of one shape and as many blocks have the same measures

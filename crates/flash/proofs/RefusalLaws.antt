@@ -1,9 +1,9 @@
 -- What an accepted call tells, and calls on one card that are answered as calls on another.
-use Rattle.std.proofs.Common.{◌≡◌, ℕ, ◌+◌, ◌<◌, ◌≤◌, cond, eqb, ltb, leb, Some, None, Ok, Err, Option, Result, refl, ap, ◌∙◌, arith}
+use Rattle.std.proofs.Common.{◌≡◌, ℕ, ◌<◌, ◌≤◌, None, Ok, Err, Option, Result, refl, ap, ◌∙◌, arith}
 use Rattle.std.proofs.lemmas.Bool.Decides.{nat_tests}
 use Rattle.flash.specs.declared.refusal.Refusal.{Refusal}
 use Rattle.flash.specs.declared.geometry.Geometry.{Geometry}
-use Rattle.flash.specs.Meaning.{Card, Shape, Block, block_at, block_count, page_at, floor_at, erase_count_at, geometry_of}
+use Rattle.flash.specs.Meaning.{Card, block_count, floor_at, erase_count_at, geometry_of}
 use Rattle.flash.specs.Refusals.{Outcome, why_not_read, why_not_program, why_not_erase, read_refusal, program_refusal, erase_refusal}
 
 -- what is known once a read is accepted

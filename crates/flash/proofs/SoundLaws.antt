@@ -1,5 +1,5 @@
 -- Program and erase keep a card sound, and soundness is a proposition.
-use Rattle.std.proofs.Common.{◌≡◌, ℕ, ◌+◌, ◌<◌, ◌≤◌, true, ◌≢◌, ◌⊎◌, List, [], length, get_or, set, replicate, sym, refl, ap, ◌∙◌, ⊎_elim, arith}
+use Rattle.std.proofs.Common.{◌≡◌, ℕ, ◌+◌, ◌<◌, ◌≤◌, true, ◌≢◌, List, [], length, get_or, set, ⊎_elim, arith}
 use mathlib.Core.Logic.{∥∥₁_elim}
 use denote.Struct.Props.{props}
 use std.HLevel.{Π_prop}
@@ -9,7 +9,7 @@ use Rattle.std.proofs.lemmas.Bool.{cases_eq}
 use Rattle.std.proofs.lemmas.Bool.Decides.{nat_tests}
 use Rattle.flash.specs.declared.geometry.Geometry.{Geometry}
 use Rattle.flash.specs.Limits.{within_limits}
-use Rattle.flash.specs.Meaning.{Card, Shape, Block, absent, blank_page, blank_block, blank_card, no_card, block_at, block_count, page_at, floor_at, erase_count_at, programmed, erased, Sound, SoundBlock}
+use Rattle.flash.specs.Meaning.{Card, Shape, Block, absent, blank_page, blank_block, blank_card, no_card, block_at, block_count, erase_count_at, programmed, erased, Sound, SoundBlock}
 use Rattle.flash.proofs.CardLaws.{programmed_shape, programmed_count, programmed_here, programmed_elsewhere, erased_shape, erased_count, erased_here, erased_elsewhere}
 use Rattle.flash.proofs.RefusalLaws.{CanProgram, CanErase}
 

@@ -17,7 +17,7 @@ use Rattle.rules.proofs.Space.{capacity_same}
 use Rattle.rules.proofs.Appending.{page_of, appended_rule}
 use Rattle.rules.proofs.ReadyCards.{Sized}
 use Rattle.rules.proofs.ReadyFirm.{Firm, firm_dropped, firm_stored}
-use Rattle.rules.proofs.ReadyOnce.{Once, once_dropped, places_dropped, places_stored, one_at_other, once_stored}
+use Rattle.rules.proofs.ReadyOnce.{Once, places_dropped, places_stored, one_at_other, once_stored}
 use Rattle.rules.proofs.ReadyMoves.{ready_good, ready_firm, ready_once, ready_dropped, firm_ready}
 
 -- ---- the bytes of a group

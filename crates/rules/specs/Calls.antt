@@ -1,10 +1,10 @@
 -- The calls of a store: what each answers, and the state that it leaves.
-use Rattle.std.specs.Prelude.{ℕ, zero, suc, ◌+◌, ◌-◌, ◌*◌, ◌^◌, ◌≤◌, Bool, true, false, cond, not, ◌&&◌, List, [], ◌∷◌, length, take, drop, replicate, is_some, Some, None, Option, ◌==◌, nat_le, nat_lt}
+use Rattle.std.specs.Prelude.{ℕ, zero, suc, ◌+◌, ◌-◌, ◌*◌, ◌^◌, ◌≤◌, Bool, true, false, cond, not, List, [], length, take, drop, replicate, is_some, Some, None, Option, ◌==◌, nat_le, nat_lt}
 use Rattle.flash.specs.Meaning.{Card, block_count, page_at, erase_count_at}
 use Rattle.rules.specs.declared.plan.Plan.{Plan}
 use Rattle.rules.specs.Sets.{has, pages_in}
 use Rattle.rules.specs.State.{State, plan_within, free_of, held}
-use Rattle.rules.specs.Moves.{Row, Work, Round, cleared, clearing, rewritten, round, rounds_for, at_rest, dropped, appended, compactions_in, merges_in, erases_in}
+use Rattle.rules.specs.Moves.{Row, Round, cleared, clearing, rewritten, round, rounds_for, at_rest, dropped, appended, compactions_in, merges_in, erases_in}
 
 pub data Call : Type 0 where
   -- block, set of pages, their bytes in ascending order, length of the work area

@@ -3,7 +3,7 @@ use Rattle.std.specs.Prelude.{◌≡◌, ℕ, ◌+◌, ◌<◌, ◌≤◌, List,
 use Rattle.flash.specs.Meaning.{Card, Block, block_count, page_at, erase_count_at, Sound}
 use Rattle.rules.specs.declared.plan.Plan.{Plan}
 use Rattle.rules.specs.State.{State, held, places}
-use Rattle.rules.specs.Calls.{Call, flush, read, discard, idle, Answer, refused, done, step, formatted, format_number}
+use Rattle.rules.specs.Calls.{read, refused, done, step, formatted, format_number}
 use Rattle.rules.specs.Runs.{Log, Ran, empty, ledger_of, erases_of, large_groups_in, small_pages_in, ceiling}
 
 -- the erase counts of all blocks, added up

@@ -1,19 +1,18 @@
 -- The open block is found, and pages go into it one after the other.
-use Rattle.std.proofs.Common.{◌≡◌, ℕ, suc, ◌+◌, ◌-◌, ◌*◌, ◌<◌, ◌≤◌, Bool, true, false, cond, not, ◌&&◌, eqb, ltb, ◌≢◌, List, [], ◌∷◌, ◌++◌, length, get_or, take, drop, set, Some, None, Option, sym, refl, ap, ◌∙◌, inl, inr, mul-le-mul_right, add-mul, one-mul, add-one, arith}
+use Rattle.std.proofs.Common.{◌≡◌, ℕ, suc, ◌+◌, ◌*◌, ◌<◌, ◌≤◌, Bool, true, false, cond, not, ◌&&◌, eqb, ltb, ◌≢◌, List, [], ◌∷◌, ◌++◌, length, get_or, take, drop, set, Some, None, Option, sym, refl, ap, ◌∙◌, mul-le-mul_right, add-mul, one-mul, add-one, arith}
 use Rattle.std.proofs.lemmas.Nat.{mul-le}
 use Rattle.std.proofs.ByRecursion.{All-set}
 use Rattle.std.proofs.lemmas.List.{drop_more, drop_all}
-use Rattle.std.proofs.lemmas.Bool.{lt-ltb, le-ltb, eq-eqb, ne_eqb}
 use Rattle.std.proofs.lemmas.Bool.Decides.{nat_tests}
 use Rattle.flash.specs.Meaning.{Card, programmed}
 use Rattle.flash.specs.Refusals.{program_refusal}
 use Rattle.rules.specs.Calls.{row_at, row_of}
-use Rattle.rules.specs.Moves.{Row, open_block, stored_at, stored, appended}
+use Rattle.rules.specs.Moves.{open_block, stored_at, stored, appended}
 use Rattle.rules.specs.Ready.{Ready}
 use Rattle.rules.specs.Sets.{has, pages_in}
-use Rattle.rules.specs.State.{State, Slot, live, free_of}
+use Rattle.rules.specs.State.{State, Slot, live}
 use Rattle.rules.proofs.OpenBlock.{OpenIn}
-use Rattle.rules.proofs.ReadyAppends.{NextPage, next_appends, page_whole}
+use Rattle.rules.proofs.ReadyAppends.{NextPage, next_appends}
 use Rattle.rules.proofs.ReadyFirm.{store_programs}
 use Rattle.rules.proofs.ReadyMoves.{ready_firm, ready_stored}
 use Rattle.rules.proofs.SetLaws.{pages_more, pages_le}
@@ -21,7 +20,7 @@ use Rattle.store.specs.declared.maps.Maps.{Maps}
 use Rattle.store.specs.declared.slot.RegionBlock.{RegionBlock}
 use Rattle.store.specs.Appends.{CanStore, CanAppend}
 use Rattle.store.specs.State.{state_of}
-use Rattle.store.specs.View.{slots_of, table_of, sets_of, state_with, Shaped, Whole}
+use Rattle.store.specs.View.{slots_of, table_of, state_with, Shaped, Whole}
 use Rattle.store.proofs.MapsLaws.{opened, row_at_lem, row_length}
 use Rattle.store.proofs.TableLaws.{no_block, table_set}
 

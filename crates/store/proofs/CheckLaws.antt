@@ -1,9 +1,9 @@
 -- The tests of the calls, one after the other.
-use Rattle.std.proofs.Common.{◌≡◌, ℕ, zero, suc, ◌+◌, ◌*◌, ◌^◌, ◌<◌, ◌≤◌, Bool, true, false, cond, not, eqb, ltb, leb, List, length, Some, None, Ok, Err, Option, Result, sym, refl, ap, ◌∙◌, arith}
+use Rattle.std.proofs.Common.{◌≡◌, ℕ, ◌*◌, ◌^◌, ◌<◌, ◌≤◌, Bool, true, false, eqb, ltb, List, length, Some, None, Ok, Err, Option, Result, sym, refl, ap, ◌∙◌, arith}
 use Rattle.std.proofs.lemmas.Bool.Decides.{nat_tests}
 use Rattle.rules.specs.Sets.{pages_in}
 use Rattle.rules.specs.State.{State}
-use Rattle.rules.specs.Calls.{Call, flush, discard, idle, Answer, refused, when_bad, near_worn, watched, flush_number, discard_number, idle_number, step}
+use Rattle.rules.specs.Calls.{Call, flush, discard, idle, Answer, refused, near_worn, watched, flush_number, discard_number, idle_number}
 use Rattle.rules.proofs.Accepted.{can_discard}
 use Rattle.rules.proofs.PageSetLaws.{pages_same}
 use Rattle.rules.proofs.Steps.{number_for, meant_by, step_meant, step_refused}

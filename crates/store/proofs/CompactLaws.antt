@@ -1,21 +1,20 @@
 -- A compaction of the tables is the compaction of the rules.
-use Rattle.std.proofs.Common.{◌≡◌, ℕ, ◌+◌, ◌<◌, ◌≤◌, ◌≢◌, List, [], length, get_or, set, None, sym, refl, ap, ◌∙◌, subst, arith}
-use Rattle.std.proofs.lemmas.List.{length-set}
+use Rattle.std.proofs.Common.{◌≡◌, ℕ, ◌+◌, List, [], length, get_or, set, None, sym, refl, ap, ◌∙◌, arith}
 use Rattle.std.proofs.ByRecursion.{All-set}
-use Rattle.flash.specs.Meaning.{Card, block_count, floor_at, erase_count_at, erased}
+use Rattle.flash.specs.Meaning.{Card, erased}
 use Rattle.flash.specs.Refusals.{erase_refusal}
-use Rattle.rules.specs.State.{State, Slot}
+use Rattle.rules.specs.State.{Slot}
 use Rattle.rules.specs.Moves.{kept, copied, compacted_at}
 use Rattle.rules.specs.Ready.{Ready}
-use Rattle.rules.proofs.ReadyCards.{Copying, copying_all}
-use Rattle.rules.proofs.ReadyFirm.{Firm, compact_starts, compact_erases, slots_short}
+use Rattle.rules.proofs.ReadyCards.{copying_all}
+use Rattle.rules.proofs.ReadyFirm.{compact_starts, compact_erases, slots_short}
 use Rattle.rules.proofs.ReadyMoves.{ready_firm, ready_compacted}
 use Rattle.store.specs.declared.maps.Maps.{Maps}
 use Rattle.store.specs.declared.slot.RegionBlock.{RegionBlock}
 use Rattle.store.specs.Moves.{CanCopy, CanCollect}
 use Rattle.store.specs.State.{state_of}
-use Rattle.store.specs.View.{slots_of, table_of, sets_of, state_with, Shaped, Whole}
-use Rattle.store.proofs.MapsLaws.{opened, rows_in, row_at_lem, row_shaped, row_length}
+use Rattle.store.specs.View.{slots_of, table_of, state_with, Shaped, Whole}
+use Rattle.store.proofs.MapsLaws.{opened, row_at_lem, row_length}
 use Rattle.store.proofs.TableLaws.{no_block, table_set}
 
 module _ (m : Maps) (c : Card) (v n : ℕ) (can : CanCollect (state_of m c) v n) where

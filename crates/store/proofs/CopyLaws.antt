@@ -1,10 +1,10 @@
 -- The live pages of a block, copied one after the other.
-use Rattle.std.proofs.Common.{◌≡◌, ℕ, ◌+◌, ◌<◌, ◌≤◌, List, [], ◌∷◌, ◌++◌, length, get_or, drop, sym, refl, ap, ◌∙◌, subst, append_assoc, arith}
+use Rattle.std.proofs.Common.{◌≡◌, ℕ, ◌+◌, ◌<◌, ◌≤◌, List, [], ◌∷◌, ◌++◌, length, get_or, drop, sym, ap, ◌∙◌, subst, append_assoc, arith}
 use Rattle.std.proofs.lemmas.List.{drop_more, drop_all, append-nil}
-use Rattle.flash.specs.Meaning.{Card, block_count, floor_at, page_at, programmed, Sound}
+use Rattle.flash.specs.Meaning.{Card, page_at, programmed}
 use Rattle.rules.specs.State.{Slot, live, dead}
 use Rattle.rules.specs.Moves.{kept, copied}
-use Rattle.rules.proofs.ReadyCards.{Copying, copying_none, copying_dead, copying_live, copying_reads, copying_programs}
+use Rattle.rules.proofs.ReadyCards.{Copying, copying_none, copying_dead, copying_live}
 use Rattle.store.specs.declared.slot.RegionBlock.{RegionBlock}
 use Rattle.store.specs.Moves.{CanCopy}
 use Rattle.store.specs.View.{slots_of, Shaped}

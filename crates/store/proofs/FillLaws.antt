@@ -1,10 +1,9 @@
 -- The pages of an area programmed into a block, one after the other.
-use Rattle.std.proofs.Common.{◌≡◌, ℕ, suc, ◌+◌, ◌-◌, ◌*◌, ◌<◌, ◌≤◌, Bool, true, false, cond, List, length, take, drop, Some, None, Option, sym, refl, ap, ◌∙◌, subst, add-mul, one-mul, add-one, arith}
+use Rattle.std.proofs.Common.{◌≡◌, ℕ, ◌+◌, ◌*◌, ◌<◌, ◌≤◌, List, length, take, drop, Some, None, ap, ◌∙◌, add-mul, one-mul, add-one, arith}
 use Rattle.std.proofs.lemmas.Nat.{mul-le}
 use Rattle.std.proofs.lemmas.List.{length-take, length-drop}
-use Rattle.flash.specs.Meaning.{Card, block_count, floor_at, programmed, Sound}
-use Rattle.rules.specs.Moves.{Row, put, filled, cleared}
-use Rattle.rules.specs.Sets.{has}
+use Rattle.flash.specs.Meaning.{Card, block_count, programmed}
+use Rattle.rules.specs.Moves.{Row, filled, cleared}
 use Rattle.rules.proofs.CardCounts.{alike_cleared}
 use Rattle.rules.proofs.ReadyCards.{Filling, filling_none, filling_skip, filling_put}
 use Rattle.rules.proofs.ReadyErases.{cleared_sound, cleared_floor}

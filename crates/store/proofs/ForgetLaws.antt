@@ -1,5 +1,5 @@
 -- The one place that holds a page is cleared, so that the page is dropped.
-use Rattle.std.proofs.Common.{◌≡◌, ℕ, ◌+◌, ◌-◌, ◌<◌, not, ◌&&◌, ◌||◌, eqb, List, [], length, get_or, set, Some, sym, ap, ◌∙◌, subst, arith}
+use Rattle.std.proofs.Common.{◌≡◌, ℕ, ◌+◌, ◌<◌, not, ◌&&◌, ◌||◌, eqb, List, [], length, get_or, set, Some, sym, ap, ◌∙◌, subst, arith}
 use Rattle.flash.specs.Meaning.{Card}
 use Rattle.rules.specs.declared.pages.PageSet.{PageSet}
 use Rattle.rules.specs.Sets.{has, set_of}

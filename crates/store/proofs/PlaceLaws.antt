@@ -1,14 +1,13 @@
 -- A group is placed, and an idle round made, as the rules have it; and the state that a call leaves is the store's.
-use Rattle.std.proofs.Common.{◌≡◌, ℕ, ◌+◌, ◌*◌, ◌^◌, ◌<◌, ◌≤◌, Bool, true, false, ltb, leb, List, [], ◌++◌, length, drop, replicate, Some, None, Option, sym, refl, ap, ◌∙◌, ap₂, arith}
+use Rattle.std.proofs.Common.{◌≡◌, ℕ, ◌*◌, ◌^◌, ◌<◌, ◌≤◌, Bool, true, false, ltb, leb, List, [], ◌++◌, length, drop, replicate, Some, sym, ap, ◌∙◌, ap₂, arith}
 use Rattle.std.proofs.lemmas.Bool.{lt-ltb, le-ltb, le-leb, lt-leb}
 use Rattle.flash.specs.Meaning.{erase_count_at}
 use Rattle.rules.specs.declared.plan.Plan.{Plan}
 use Rattle.rules.specs.Sets.{has, pages_in}
-use Rattle.rules.specs.State.{State, free_of, capacity}
-use Rattle.rules.specs.Moves.{Work, round, rounds_for, at_rest, rewritten, dropped, appended, clearing}
-use Rattle.rules.specs.Calls.{Report, Answer, done, told, to_data, to_region, flushed_as, flushed, rested_as, rested, row_of, near_worn, watched}
+use Rattle.rules.specs.State.{State, free_of}
+use Rattle.rules.specs.Moves.{round, rounds_for, at_rest, rewritten, dropped, appended, clearing}
+use Rattle.rules.specs.Calls.{Answer, done, told, to_data, to_region, flushed_as, flushed, rested_as, rested, row_of, watched}
 use Rattle.rules.specs.Ready.{Ready}
-use Rattle.rules.proofs.Accepted.{CanFlush}
 use Rattle.rules.proofs.ReadyAppends.{free_dropped}
 use Rattle.rules.proofs.ReadyErases.{far_from_worn}
 use Rattle.rules.proofs.ReadyLoops.{passable, passes_after, idle_round}
@@ -20,7 +19,7 @@ use Rattle.store.specs.declared.tally.Tally.{Tally}
 use Rattle.store.specs.Appends.{CanAppend}
 use Rattle.store.specs.Calls.{state_in, block_bytes}
 use Rattle.store.specs.Moves.{CanRewrite}
-use Rattle.store.specs.Rounds.{tally_of, Roomy, CanMakeRoom, CanPlace, CanRest}
+use Rattle.store.specs.Rounds.{tally_of, CanMakeRoom, CanPlace, CanRest}
 use Rattle.store.proofs.AgreeLaws.{state_kept}
 
 -- ---- the state that a call leaves

@@ -1,9 +1,8 @@
 -- What a read answers, test by test.
-use Rattle.std.proofs.Common.{◌≡◌, ℕ, zero, suc, ◌+◌, ◌<◌, ◌≤◌, Bool, true, false, cond, not, eqb, leb, List, is_some, Some, None, Option, sym, refl, ap, ◌∙◌, arith}
+use Rattle.std.proofs.Common.{◌≡◌, ℕ, ◌<◌, ◌≤◌, Bool, true, false, cond, is_some, Some, None, Option, sym, refl, ap, ◌∙◌, arith}
 use Rattle.std.proofs.lemmas.Bool.Decides.{nat_tests}
-use Rattle.flash.specs.Meaning.{page_at}
 use Rattle.rules.specs.State.{State, held}
-use Rattle.rules.specs.Calls.{Call, read, Answer, refused, done, step, unless, read_number, gives, when_bad}
+use Rattle.rules.specs.Calls.{Call, read, Answer, refused, step, unless, read_number, gives}
 use Rattle.store.specs.Calls.{answer_in, agreeing, state_in}
 
 -- a store that has a state has just this one

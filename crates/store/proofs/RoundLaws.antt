@@ -1,5 +1,5 @@
 -- Rounds of garbage collection, as the code makes and counts them.
-use Rattle.std.proofs.Common.{◌≡◌, ℕ, zero, suc, ◌+◌, ◌-◌, ◌*◌, ◌<◌, ◌≤◌, Bool, true, false, cond, ltb, List, [], ◌∷◌, ◌++◌, length, take, drop, Some, sym, refl, ap, ◌∙◌, ap₂, mul-le-mul_right, zero-mul, arith, pow_pos}
+use Rattle.std.proofs.Common.{◌≡◌, ℕ, zero, suc, ◌+◌, ◌*◌, ◌<◌, ◌≤◌, Bool, true, false, cond, ltb, List, [], ◌∷◌, ◌++◌, length, take, drop, Some, sym, refl, ap, ◌∙◌, ap₂, mul-le-mul_right, zero-mul, arith, pow_pos}
 use Rattle.rules.specs.Sets.{has, pages_in}
 use Rattle.rules.proofs.SetLaws.{has_none}
 use borrow.Rule.Slice.PartMut.{put_mid}

@@ -1,5 +1,5 @@
 -- What changes of the maps alone make of a state: the card stays as it is.
-use Rattle.std.specs.Prelude.{ℕ, List, set, slice_set}
+use Rattle.std.specs.Prelude.{ℕ, List, slice_set}
 use Rattle.rules.specs.State.{State, Slot}
 use Rattle.rules.specs.Moves.{retired, of_block}
 

@@ -1,6 +1,5 @@
 -- The trial card, and what it prints for a work list.
 use Rattle.std.specs.Prelude.{◌≡◌, ℕ, ◌+◌, cond, List, ◌++◌, length, replicate, Some, nat_le}
-use Rattle.flash.specs.declared.geometry.Geometry.{Geometry}
 use Rattle.flash.specs.Meaning.{Card, blank_card}
 use Rattle.rules.specs.declared.plan.Plan.{Plan}
 use Rattle.rules.specs.Calls.{formatted}

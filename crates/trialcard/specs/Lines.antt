@@ -1,5 +1,5 @@
 -- The lines that are printed for the answers to a work list.
-use Rattle.std.specs.Prelude.{ℕ, zero, suc, ◌+◌, ◌/◌, ◌%◌, cond, ◌&&◌, List, [], ◌∷◌, ◌++◌, length, take, drop, codes, decimal, ◌==◌, nat_le, nat_lt}
+use Rattle.std.specs.Prelude.{ℕ, zero, suc, ◌+◌, ◌/◌, ◌%◌, cond, ◌&&◌, List, [], ◌∷◌, ◌++◌, length, take, drop, decimal, ◌==◌, nat_le, nat_lt}
 use Rattle.worklist.specs.declared.answer.AnswerRecord.{AnswerRecord}
 use Rattle.worklist.specs.Answers.{fields_in}
 

@@ -1,12 +1,11 @@
 -- What one record writes and counts, from what its call promises.
-use Rattle.std.proofs.Common.{◌≡◌, ℕ, zero, suc, ◌+◌, ◌-◌, ◌*◌, ◌^◌, ◌<◌, ◌≤◌, Bool, true, false, cond, eqb, ltb, leb, List, [], ◌++◌, length, take, drop, replicate, Some, None, Option, sym, refl, ap, ◌∙◌, subst, ⊎_elim, append_assoc, arith, length-drop}
+use Rattle.std.proofs.Common.{◌≡◌, ℕ, zero, suc, ◌+◌, ◌*◌, ◌^◌, ◌<◌, ◌≤◌, Bool, true, false, cond, eqb, ltb, leb, List, ◌++◌, length, take, drop, replicate, Some, None, Option, sym, refl, ap, ◌∙◌, subst, ⊎_elim, append_assoc, arith}
 use borrow.Rule.Slice.PartMut.{put_mid, put_same}
 use Rattle.std.proofs.lemmas.List.{drop-drop, drop_at, length-take-le}
 use Rattle.std.proofs.lemmas.Slice.{take-put_mid_below}
 use Rattle.std.proofs.lemmas.Bool.{leb-true, leb-false, cases_Bool}
-use Rattle.rules.specs.Calls.{Call, flush, read, discard, idle, Report, Answer, refused, done, row_of, flush_number, flushed_as, flushed, told, rested_as, rested, gives, read_number, unless, idle_number, step}
+use Rattle.rules.specs.Calls.{Call, flush, read, idle, Report, Answer, refused, done, row_of, flush_number, flushed_as, flushed, told, rested_as, rested, gives, read_number, unless, idle_number}
 use Rattle.rules.specs.Moves.{Row, round_as, round, at_rest, fullest}
-use Rattle.rules.specs.Runs.{accepted}
 use Rattle.rules.specs.Sets.{pages_in}
 use Rattle.rules.specs.State.{State, dead_of, free_of, held}
 use Rattle.rules.proofs.Accepted.{can_flush}
@@ -18,10 +17,10 @@ use Rattle.store.specs.declared.report.Report.{Report as CodeReport}
 use Rattle.store.specs.Calls.{state_in, agreeing, answer_in, state_after, report_of, way_in}
 use Rattle.worklist.specs.declared.answer.AnswerRecord.{AnswerRecord}
 use Rattle.worklist.specs.declared.step.Step.{Step}
-use Rattle.worklist.specs.Answers.{kind_of, fields_for, fields_bytes, answered}
+use Rattle.worklist.specs.Answers.{fields_for, fields_bytes, answered}
 use Rattle.worklist.specs.Carry.{Small, large_by, small_by, group_counts, Told}
 use Rattle.worklist.specs.Records.{Item}
-use Rattle.worklist.specs.Runs.{call_for, area_then, block_bytes}
+use Rattle.worklist.specs.Runs.{call_for}
 
 -- ---- a store that carries a call out has a state
 

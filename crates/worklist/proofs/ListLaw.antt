@@ -1,5 +1,5 @@
 -- A work list is a run of calls: what it tells is what the law of runs counts.
-use Rattle.std.proofs.Common.{◌≡◌, ℕ, zero, suc, ◌+◌, ◌≤◌, Bool, true, false, cond, leb, List, [], ◌∷◌, ◌++◌, length, Some, None, Option, sym, refl, ap, ◌∙◌, subst, arith}
+use Rattle.std.proofs.Common.{◌≡◌, ℕ, zero, suc, ◌+◌, ◌≤◌, Bool, true, false, cond, leb, List, [], ◌∷◌, ◌++◌, length, Some, None, Option, sym, refl, ap, subst, arith}
 use Rattle.rules.specs.Calls.{Call, Answer, formatted, step}
 use Rattle.rules.specs.Runs.{Log, Ran, still, after, erases_of, ceiling}
 use Rattle.rules.specs.State.{State}

@@ -1,5 +1,5 @@
 -- What stands at a place of a list, from the bytes there.
-use Rattle.std.proofs.Common.{◌≡◌, ℕ, ◌+◌, ◌-◌, ◌*◌, ◌/◌, ◌%◌, ◌^◌, ◌<◌, ◌≤◌, Bool, cond, leb, List, length, get_or, take, drop, Some, None, Ok, Err, Option, Result, sym, refl, ap, ◌∙◌, add-zero, arith, length-drop}
+use Rattle.std.proofs.Common.{◌≡◌, ℕ, ◌+◌, ◌-◌, ◌*◌, ◌/◌, ◌%◌, ◌^◌, ◌<◌, ◌≤◌, Bool, cond, leb, List, length, get_or, take, drop, Some, None, Ok, Err, Option, Result, sym, ap, ◌∙◌, add-zero, arith, length-drop}
 use Rattle.std.proofs.lemmas.List.{get_or-drop, drop-drop}
 use Rattle.std.proofs.lemmas.Bool.{le-leb, lt-leb, cond-true, cond-false}
 use Rattle.rules.specs.Sets.{pages_in}
@@ -9,7 +9,7 @@ use Rattle.worklist.specs.declared.record.Head.{Head}
 use Rattle.worklist.specs.declared.record.Kind.{Kind}
 use Rattle.worklist.specs.declared.record.Kind.TheVariants.{Flush as Kind-as-Flush, Discard as Kind-as-Discard}
 use Rattle.worklist.specs.Numbers.{kind_for}
-use Rattle.worklist.specs.Records.{Item, flush_of, discard_of, word_in, zeros_in, head_from, head_of, set_in, data_length, Found, found_if, body_of, after_head, read_one, Next, stopped, next_as, next_at}
+use Rattle.worklist.specs.Records.{Item, flush_of, discard_of, word_in, zeros_in, head_from, head_of, set_in, data_length, Found, found_if, body_of, after_head, read_one, stopped, next_as, next_at}
 
 pub set_at :
     (xs : List ℕ) (at : ℕ) →

@@ -1,6 +1,5 @@
 -- No call changes the plan, nor the pages a block.
 use Rattle.std.proofs.Common.{◌≡◌, ℕ, zero, suc, ◌*◌, Bool, true, false, ltb, leb, List, Some, None, Option, sym, refl, ◌∙◌, subst}
-use Rattle.rules.specs.declared.plan.Plan.{Plan}
 use Rattle.rules.specs.Calls.{Call, flush, read, discard, idle, Answer, row_of, flushed_as, flushed, rested_as, rested, unless, step}
 use Rattle.rules.specs.Moves.{Row, Work, dropped, compacted_at, rewritten, round_as, round, more, rounds_for, at_rest, open_block, stored_at, stored, appended}
 use Rattle.rules.specs.Sets.{has, pages_in}

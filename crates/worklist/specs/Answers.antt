@@ -1,5 +1,5 @@
 -- How the answers to a work list lie in their buffer.
-use Rattle.std.specs.Prelude.{◌≡◌, ℕ, ◌+◌, ◌*◌, ◌/◌, ◌%◌, ◌^◌, ◌<◌, List, [], ◌∷◌, ◌++◌, length, slice_index}
+use Rattle.std.specs.Prelude.{◌≡◌, ℕ, ◌+◌, ◌*◌, ◌/◌, ◌%◌, ◌^◌, ◌<◌, List, [], ◌∷◌, ◌++◌, slice_index}
 use Rattle.rules.specs.Calls.{Call, flush, read, discard, idle, Answer, refused, done}
 use Rattle.worklist.specs.declared.answer.AnswerRecord.{AnswerRecord}
 

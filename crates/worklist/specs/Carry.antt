@@ -1,5 +1,5 @@
 -- What carrying out one record promises.
-use Rattle.std.specs.Prelude.{◌≡◌, ℕ, ◌+◌, ◌<◌, ◌≤◌, cond, List, length, Some, None, Option, ◌==◌}
+use Rattle.std.specs.Prelude.{◌≡◌, ℕ, ◌<◌, ◌≤◌, cond, List, length, Some, None, Option, ◌==◌}
 use borrow.Rule.Slice.PartMut.{put_mid}
 use Rattle.rules.specs.Calls.{Call, Answer}
 use Rattle.rules.specs.Runs.{accepted, erases_told, large_in, small_in}

@@ -1,5 +1,5 @@
 -- A work list is a run of calls, so that what holds of every run holds of it.
-use Rattle.std.specs.Prelude.{◌≡◌, ℕ, ◌≤◌, Some, None, Option}
+use Rattle.std.specs.Prelude.{◌≡◌, ◌≤◌, Some, None, Option}
 use Rattle.flash.specs.Meaning.{Card, Sound}
 use Rattle.rules.specs.declared.plan.Plan.{Plan}
 use Rattle.rules.specs.Calls.{format_number, formatted}

@@ -9,7 +9,7 @@ use Rattle.worklist.specs.declared.record.Kind.TheVariants.{Flush as Kind-as-Flu
 use Rattle.worklist.specs.declared.record.Record.{Record}
 use Rattle.worklist.specs.declared.record.Record.TheVariants.{Flush, Read, Discard, Idle}
 use Rattle.worklist.specs.declared.record.Taken.{Taken}
-use Rattle.worklist.specs.Numbers.{kind_for, kind_number}
+use Rattle.worklist.specs.Numbers.{kind_for}
 
 -- what a record asks for
 pub data Item : Type 0 where

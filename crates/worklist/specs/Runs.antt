@@ -7,7 +7,7 @@ use Rattle.store.specs.Calls.{answer_in, state_after}
 use Rattle.worklist.specs.declared.ended.Ended.{Ended}
 use Rattle.worklist.specs.Answers.{kind_of, answered}
 use Rattle.worklist.specs.Numbers.{end_number}
-use Rattle.worklist.specs.Records.{Item, flush_of, read_of, discard_of, idle_round, Found, Next, taken, stopped, next_at}
+use Rattle.worklist.specs.Records.{Item, flush_of, read_of, discard_of, idle_round, Next, taken, stopped, next_at}
 
 -- the call that a record asks for: a read has a buffer of a page, and flushes and idle rounds have a work area of so many bytes
 abbrev pub call_for : ℕ → ℕ → Item → Call

@@ -1,4 +1,4 @@
-use Rattle.std.proofs.Common.{◌≡◌, ◌<◌, ◌≤◌, refl, ap, ◌∙◌, arith}
+use Rattle.std.proofs.Common.{◌<◌, refl, ap, arith}
 use Rattle.flash.specs.Meaning.{block_count}
 use Rattle.bringup.specs.Checked.{checked_below, noted_below, summary_below}
 use Rattle.bringup.proofs.FlashLaws.{block_ready, small_below, checked_more, noted_more, added_more}

@@ -1,6 +1,5 @@
-use Rattle.std.proofs.Common.{◌≡◌, ℕ, [], length, None, ap, ◌∙◌, arith}
+use Rattle.std.proofs.Common.{◌≡◌, ℕ, [], length, ap, ◌∙◌, arith}
 use Rattle.flash.specs.Meaning.{programmed}
-use Rattle.flash.specs.Refusals.{read_refusal}
 use Rattle.flash.proofs.RefusalLaws.{can_program}
 use Rattle.bringup.specs.Pattern.{pattern}
 use Rattle.bringup.proofs.CheckLaws.{reads_back, read_goes}

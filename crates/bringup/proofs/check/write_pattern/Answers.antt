@@ -1,6 +1,6 @@
-use Rattle.std.proofs.Common.{◌≡◌, ℕ, ◌<◌, true, false, length, refl, ap, ◌∙◌, arith}
+use Rattle.std.proofs.Common.{◌≡◌, ℕ, ◌<◌, true, false, refl, ap, ◌∙◌, arith}
 use Rattle.bringup.specs.Checked.{patterned}
-use Rattle.bringup.proofs.CheckLaws.{Patterning, patterning, next_page, patterned_more}
+use Rattle.bringup.proofs.CheckLaws.{patterning, next_page, patterned_more}
 use Rattle.bringup.proofs.check.write_pattern.Goals as goal
 use Rattle.bringup.proofs.check.write_pattern.Goals.{then-not-branch, else-not-branch}
 

@@ -1,4 +1,4 @@
-use Rattle.std.proofs.Common.{◌≡◌, ℕ, ◌<◌, length}
+use Rattle.std.proofs.Common.{◌≡◌}
 use Rattle.bringup.specs.Checked.{patterned}
 use Rattle.bringup.proofs.check.write_pattern.Given as goal
 

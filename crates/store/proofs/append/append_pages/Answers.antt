@@ -1,7 +1,7 @@
-use Rattle.std.proofs.Common.{◌≡◌, ℕ, ◌+◌, ◌-◌, ◌*◌, ◌≤◌, true, List, length, take, drop, Some, sym, refl, ap, ◌∙◌, arith}
+use Rattle.std.proofs.Common.{◌≡◌, ℕ, ◌+◌, ◌-◌, ◌*◌, ◌≤◌, true, List, length, take, drop, sym, refl, ap, ◌∙◌, arith}
 use mir.Facts.{Fits-below}
 use Rattle.rules.specs.Calls.{row_of}
-use Rattle.rules.specs.Moves.{stored, appended}
+use Rattle.rules.specs.Moves.{appended}
 use Rattle.rules.specs.Sets.{has, pages_in}
 use Rattle.rules.specs.State.{State}
 use Rattle.store.specs.State.{state_of}

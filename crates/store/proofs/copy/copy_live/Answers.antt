@@ -1,6 +1,5 @@
-use Rattle.std.proofs.Common.{◌≡◌, ◌<◌, ◌≤◌, length, sym, refl, ap, ◌∙◌, arith}
+use Rattle.std.proofs.Common.{◌<◌, length, sym, ap, ◌∙◌, arith}
 use Rattle.store.specs.View.{slots_of}
-use Rattle.store.specs.Moves.{CanCopy}
 use Rattle.store.proofs.SlotLaws.{slot_at, slots_length}
 use Rattle.store.proofs.CopyLaws.{copied_none, copied_dead, copied_live, copied_all, can_copy_slots}
 use Rattle.store.proofs.copy.copy_live.Goals as goal

@@ -1,4 +1,4 @@
-use Rattle.std.proofs.Common.{◌≡◌, ◌<◌, ◌≤◌, length, sym, refl, ap, ◌∙◌, arith}
+use Rattle.std.proofs.Common.{◌∙◌}
 use Rattle.rules.proofs.PageSetLaws.{pages_same}
 use Rattle.store.specs.State.{state_of}
 use Rattle.store.proofs.PlaceLaws.{place_rewrites, place_room, placed_large, made_drops, made_appends, placed_small}

@@ -1,5 +1,5 @@
-use Rattle.std.proofs.Common.{◌≡◌, ◌<◌, ◌≤◌, sym, refl, ap, ◌∙◌, arith}
-use Rattle.rules.specs.State.{State, free_of}
+use Rattle.std.proofs.Common.{sym, refl, ap, arith}
+use Rattle.rules.specs.State.{State}
 use Rattle.rules.specs.Calls.{Answer}
 use Rattle.store.specs.State.{state_of}
 use Rattle.store.proofs.PlaceLaws.{rest_collects, rests, works}

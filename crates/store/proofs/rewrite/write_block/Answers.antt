@@ -1,6 +1,6 @@
-use Rattle.std.proofs.Common.{◌≡◌, ℕ, ◌+◌, ◌-◌, ◌*◌, ◌<◌, ◌≤◌, Bool, cond, length, take, drop, Some, None, sym, refl, ap, ◌∙◌, arith}
-use Rattle.flash.specs.Meaning.{Card, programmed}
-use Rattle.rules.specs.Moves.{cleared, filled}
+use Rattle.std.proofs.Common.{◌≡◌, ℕ, ◌+◌, ◌-◌, ◌*◌, Bool, cond, length, take, drop, Some, None, sym, refl, ap, ◌∙◌, arith}
+use Rattle.flash.specs.Meaning.{programmed}
+use Rattle.rules.specs.Moves.{filled}
 use Rattle.store.specs.Moves.{row_in}
 use Rattle.store.proofs.FillLaws.{row_end, fill_starts, fill_skip, fill_put, fill_all, part_size, cleared_as}
 use Rattle.store.proofs.rewrite.write_block.Goals as goal

@@ -1,5 +1,5 @@
 use Rattle.std.proofs.Common.{◌≡◌}
-use Rattle.rules.specs.Moves.{cleared, filled}
+use Rattle.rules.specs.Moves.{filled}
 use Rattle.store.specs.Moves.{row_in}
 use Rattle.rules.proofs.ReadyCards.{Filling}
 use Rattle.store.proofs.rewrite.write_block.Given as goal

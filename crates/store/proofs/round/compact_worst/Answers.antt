@@ -1,4 +1,4 @@
-use Rattle.std.proofs.Common.{◌≡◌, sym, refl, ap, ◌∙◌, arith}
+use Rattle.std.proofs.Common.{sym, ap, arith}
 use Rattle.store.specs.State.{state_of}
 use Rattle.store.proofs.RoundLaws.{page_fits, page_beyond, compaction_round}
 use Rattle.store.proofs.round.compact_worst.Goals as goal

@@ -1,4 +1,4 @@
-use Rattle.std.proofs.Common.{◌≡◌, sym, refl, ap, ◌∙◌, arith}
+use Rattle.std.proofs.Common.{sym, ◌∙◌}
 use Rattle.store.specs.State.{state_of}
 use Rattle.store.proofs.RoundLaws.{merge_round, merge_starts}
 use Rattle.store.proofs.RewriteLaws.{rewritten_none}

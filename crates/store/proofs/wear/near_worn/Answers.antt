@@ -1,4 +1,4 @@
-use Rattle.std.proofs.Common.{◌≡◌, sym, refl, ap, ◌∙◌, arith}
+use Rattle.std.proofs.Common.{sym, refl, ap, arith}
 use Rattle.rules.specs.Calls.{near_worn}
 use Rattle.store.proofs.WearLaws.{far_more, near_found}
 use Rattle.store.proofs.wear.near_worn.Goals as goal

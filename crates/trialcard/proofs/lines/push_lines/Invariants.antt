@@ -1,5 +1,4 @@
-use Rattle.std.proofs.Common.{◌≡◌, ℕ, ◌+◌, ◌≤◌, ◌++◌, length, string_bytes}
-use Rattle.trialcard.specs.Lines.{lines_for}
+use Rattle.std.proofs.Common.{length, string_bytes}
 use Rattle.trialcard.proofs.LineLaws.{Unprinted}
 use Rattle.trialcard.proofs.lines.push_lines.Given as goal
 

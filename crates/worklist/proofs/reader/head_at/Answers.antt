@@ -1,4 +1,4 @@
-use Rattle.std.proofs.Common.{◌≡◌, ◌-◌, ◌<◌, length, Some, None, sym, refl, arith}
+use Rattle.std.proofs.Common.{◌-◌, ◌<◌, length, Some, None, sym, refl, arith}
 use Rattle.worklist.proofs.ReadLaws.{head_short, head_as, head_zeros}
 use Rattle.worklist.proofs.reader.head_at.Goals as goal
 use Rattle.worklist.proofs.reader.head_at.Goals.{then-at-list-via-then-at-list, then-at-list-via-else-at-list+then-list-at-lt2}

@@ -1,8 +1,7 @@
-use Rattle.std.proofs.Common.{◌≡◌, length, sym, refl, ◌∙◌, arith, length-set}
+use Rattle.std.proofs.Common.{sym, refl, ◌∙◌, length-set}
 use mir.Facts.{Fits-bits}
 use Rattle.std.proofs.lemmas.Result.{err_from_is_err_and}
-use Rattle.flash.proofs.RefusalLaws.{CanErase, erase_as, erase_accepted}
-use Rattle.chips.specs.Plain.{plain_card}
+use Rattle.flash.proofs.RefusalLaws.{erase_as, erase_accepted}
 use Rattle.chips.proofs.PlainLaws.{plain_geometry, plain_can_erase, plain_clear, plain_clear_end, plain_clear_sound, plain_clear_room, plain_below}
 use Rattle.chips.proofs.plain.PlainChipFlash.erase.Goals as goal
 

@@ -1,7 +1,6 @@
-use Rattle.std.proofs.Common.{◌≡◌, length, sym, refl, ◌∙◌, arith, length-set}
+use Rattle.std.proofs.Common.{sym, refl, ◌∙◌, length-set}
 use Rattle.std.proofs.lemmas.Result.{err_from_is_err_and}
-use Rattle.flash.proofs.RefusalLaws.{CanProgram, program_as, program_accepted}
-use Rattle.chips.specs.Plain.{plain_card}
+use Rattle.flash.proofs.RefusalLaws.{program_as, program_accepted}
 use Rattle.chips.proofs.PlainLaws.{plain_geometry, plain_can_program, plain_put, plain_put_sound, plain_put_end, plain_put_room}
 use Rattle.chips.proofs.plain.PlainChipFlash.program.Goals as goal
 

@@ -1,7 +1,6 @@
-use Rattle.std.proofs.Common.{◌≡◌, length, sym, refl, ◌∙◌, arith}
+use Rattle.std.proofs.Common.{sym, refl, ◌∙◌}
 use Rattle.std.proofs.lemmas.Result.{err_from_is_err_and}
-use Rattle.flash.proofs.RefusalLaws.{CanRead, read_as, read_accepted}
-use Rattle.chips.specs.Plain.{plain_card}
+use Rattle.flash.proofs.RefusalLaws.{read_as, read_accepted}
 use Rattle.chips.proofs.PlainLaws.{plain_geometry, plain_can_read, plain_get_end, plain_got}
 use Rattle.chips.proofs.plain.PlainChipFlash.read.Goals as goal
 

@@ -1,4 +1,4 @@
-use Rattle.std.proofs.Common.{◌≡◌, ◌<◌, length, sym, refl, ◌∙◌, arith}
+use Rattle.std.proofs.Common.{◌<◌, length, sym, ◌∙◌, arith}
 use Rattle.store.specs.View.{table_of}
 use Rattle.store.proofs.AppendLaws.{open_found, open_reserve, open_full, open_none}
 use Rattle.store.proofs.MapsLaws.{rows, row_length}

@@ -1,5 +1,5 @@
 -- Each turn looks at one slot more: it dies if it is live and of the block.
-use Rattle.std.proofs.Common.{◌≡◌, ◌<◌, length, get_or, set, sym, refl, ap, ◌∙◌, arith}
+use Rattle.std.proofs.Common.{◌≡◌, ◌<◌, length, get_or, set, sym, ap, ◌∙◌, arith}
 use Rattle.std.proofs.lemmas.Bool.{eqb-true, eqb-false}
 use Rattle.rules.specs.State.{dead}
 use Rattle.rules.specs.Moves.{retire, of_block}

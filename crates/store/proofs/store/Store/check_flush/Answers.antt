@@ -1,12 +1,10 @@
-use Rattle.std.proofs.Common.{◌≡◌, ℕ, ◌*◌, ◌≤◌, sym, ap, ◌∙◌, ap₂, arith}
+use Rattle.std.proofs.Common.{◌*◌, sym, ap, ◌∙◌, ap₂, arith}
 use mir.Facts.{Fits-below}
 use Rattle.std.proofs.lemmas.Nat.{mul-le}
-use Rattle.std.proofs.lemmas.Result.{err_from_is_err_and, MatchResult-weaker}
-use Rattle.rules.specs.Sets.{pages_in}
+use Rattle.std.proofs.lemmas.Result.{err_from_is_err_and}
 use Rattle.rules.proofs.SetLaws.{pages_le}
-use Rattle.store.specs.Calls.{state_in, number_in}
 use Rattle.store.specs.State.{state_of}
-use Rattle.store.proofs.CheckLaws.{number_pos, flush_refused_pages, flush_refused_data, flush_as_idle, checked_as_lem, pages_counted}
+use Rattle.store.proofs.CheckLaws.{number_pos, flush_refused_pages, flush_refused_data, checked_as_lem, pages_counted}
 use Rattle.store.proofs.store.Store.check_flush.Goals as goal
 
 pub returns-in_err-check_pages : goal.returns-in_err-check_pages

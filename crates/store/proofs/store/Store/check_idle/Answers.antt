@@ -1,4 +1,4 @@
-use Rattle.std.proofs.Common.{◌≡◌, ◌*◌, ◌<◌, ◌≤◌, sym, ap, ◌∙◌, arith}
+use Rattle.std.proofs.Common.{◌*◌, sym, ap, ◌∙◌, arith}
 use Rattle.rules.specs.Calls.{near_worn}
 use Rattle.store.specs.State.{state_of}
 use Rattle.store.proofs.CheckLaws.{number_as, idle_11, idle_12, idle_0}

@@ -1,4 +1,4 @@
-use Rattle.std.proofs.Common.{◌≡◌, sym, ◌∙◌}
+use Rattle.std.proofs.Common.{sym}
 use Rattle.store.specs.State.{state_of}
 use Rattle.store.proofs.CheckLaws.{number_as, discard_7, discard_8, discard_9, discard_0}
 use Rattle.store.proofs.ReadLaws.{state_is}

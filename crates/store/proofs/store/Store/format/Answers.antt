@@ -1,7 +1,6 @@
-use Rattle.std.proofs.Common.{◌≡◌, ℕ, ◌+◌, ◌<◌, ◌≤◌, true, false, sym, refl, ap, ◌∙◌, arith}
-use Rattle.flash.specs.Meaning.{block_count}
+use Rattle.std.proofs.Common.{◌≡◌, ℕ, sym, refl, ap, ◌∙◌, arith}
 use Rattle.rules.specs.State.{plan_within}
-use Rattle.rules.specs.Calls.{near_worn, format_number}
+use Rattle.rules.specs.Calls.{near_worn}
 use Rattle.rules.proofs.Laws.{law}
 use Rattle.rules.proofs.Wear.{lasting}
 use Rattle.store.proofs.FormatLaws.{format_15, format_16, format_12, format_0, formatted_is, format_leaves}

@@ -1,5 +1,4 @@
-use Rattle.std.proofs.Common.{◌≡◌, ℕ, List, length, Some, None, sym, refl, ap, ◌∙◌, arith}
-use Rattle.flash.specs.Refusals.{read_refusal}
+use Rattle.std.proofs.Common.{◌≡◌, ℕ, List, length, sym, refl, ap, ◌∙◌, arith}
 use Rattle.rules.specs.Calls.{done}
 use Rattle.rules.proofs.ReadyHeld.{held_reads}
 use Rattle.rules.proofs.ReadyMoves.{ready_good}

@@ -1,4 +1,4 @@
-use Rattle.std.proofs.Common.{◌≡◌, ℕ, sym, ap, ◌∙◌}
+use Rattle.std.proofs.Common.{ℕ, sym, ap, ◌∙◌}
 use Rattle.rules.specs.State.{live_of, dead_of}
 use Rattle.store.specs.Calls.{slots_in}
 use Rattle.store.specs.State.{state_of}
