@@ -4,7 +4,7 @@
 #[cfg(test)]
 mod image;
 #[cfg(test)]
-mod layers;
+mod layered;
 #[cfg(test)]
 mod limits;
 #[cfg(test)]

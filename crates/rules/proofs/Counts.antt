@@ -1,7 +1,7 @@
 -- What each move does to the counts of live and dead slots: no slot is lost, a merge takes the greatest share of the live ones,
 -- and a compaction recovers just the dead slots of its victim, of which there is at least one.
 use Rattle.std.proofs.Common.{◌≡◌, ℕ, zero, suc, ◌+◌, ◌*◌, ◌<◌, ◌≤◌, Bool, true, false, cond, eqb, ◌≢◌, List, [], ◌∷◌, map, length, get_or, set, Some, sum_by, refl, ap, ◌∙◌, subst, inl, inr, mul-zero, arith}
-use Rattle.std.specs.List.{AllByRecursion as All, range_with_len}
+use Rattle.std.specs.List.{AllByRecursion, range_with_len}
 use Rattle.std.proofs.lemmas.List.Sums.{sum_by-cons}
 use Rattle.std.proofs.lemmas.List.{length-map}
 use Rattle.std.proofs.lemmas.Bool.{cases_eq, eq-eqb}
@@ -96,7 +96,7 @@ one_within l n dead h = omega arith
 
 -- the blocks' shares add up to all live slots
 pub spread :
-    (l n : ℕ) (t : List (List Slot)) → All (Filed l n) t → sum_by lives t ≤ sum_by (share_of t) (range_with_len 0 l)
+    (l n : ℕ) (t : List (List Slot)) → AllByRecursion (Filed l n) t → sum_by lives t ≤ sum_by (share_of t) (range_with_len 0 l)
 spread l n t a =
     rw (sum_swap (λ d xs. sum_by (one_of d) xs) (range_with_len 0 l) t)
     (sum_le_on lives (λ xs. sum_by (λ d. sum_by (one_of d) xs) (range_with_len 0 l)) (Filed l n)
@@ -111,7 +111,7 @@ pub record Share (l : ℕ) (t : List (List Slot)) (d : ℕ) : Type 0 where
   pub inside : d < l
   pub share : sum_by lives t ≤ l * share_of t d
 
-pub share : (l n : ℕ) (t : List (List Slot)) → 0 < l → All (Filed l n) t → (d : ℕ) × Share l t d
+pub share : (l n : ℕ) (t : List (List Slot)) → 0 < l → AllByRecursion (Filed l n) t → (d : ℕ) × Share l t d
 share zero n t h a = absurd (omega arith)
 share (suc l) n t h a =
     let r = top (share_of t) 0 (range_with_len (0 + 1) l) 0 in

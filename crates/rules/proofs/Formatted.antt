@@ -1,6 +1,6 @@
 -- An accepted format leaves a state that is ready for calls, with no slot in use.
 use Rattle.std.proofs.Common.{◌≡◌, ℕ, zero, suc, ◌+◌, ◌-◌, ◌*◌, ◌^◌, ◌<◌, ◌≤◌, false, [], replicate, sym, refl, ap, mul-le-mul_right, arith}
-use Rattle.std.specs.List.{AllByRecursion as All}
+use Rattle.std.specs.List.{AllByRecursion}
 use Rattle.std.proofs.lemmas.List.{length-replicate, get_or-replicate}
 use Rattle.flash.specs.Meaning.{Card, Shape}
 use Rattle.rules.specs.declared.plan.Plan.{Plan}
@@ -21,7 +21,7 @@ pub record Fresh (s : State) : Type 0 where
   pub no_live : live_of s ≡ 0
   pub no_dead : dead_of s ≡ 0
 
-all_replicate : {X : Type 0} (P : X → Type 0) (n : ℕ) (x : X) → P x → All P (replicate n x)
+all_replicate : {X : Type 0} (P : X → Type 0) (n : ℕ) (x : X) → P x → AllByRecursion P (replicate n x)
 all_replicate P zero x h = tt
 all_replicate P (suc n) x h = (h, all_replicate P n x h)
 

@@ -1,6 +1,6 @@
 -- The choice of the greatest: it finds a place, no element counts more than the one there, and that one counts at least the mean.
 use Rattle.std.proofs.Common.{◌≡◌, ℕ, suc, ◌*◌, ◌<◌, ◌≤◌, true, false, ltb, ◌⊎◌, List, [], ◌∷◌, length, get_or, Some, sum_by, refl, ap, ◌∙◌, inl, inr, arith}
-use Rattle.std.specs.List.{AllByRecursion as All}
+use Rattle.std.specs.List.{AllByRecursion}
 use Rattle.std.proofs.ByRecursion.{sum_by_le, All-weaker}
 use Rattle.std.proofs.lemmas.List.{get_or_default}
 use Rattle.std.proofs.lemmas.Bool.{ltb-true, ltb-false, cases_Bool, cond-true, cond-false}
@@ -10,7 +10,7 @@ use Rattle.rules.specs.Choice.{against, greatest}
 pub record Top {X : Type 0} (count : X → ℕ) (xs : List X) (d : X) (k : ℕ) : Type 0 where
   pub found : greatest count xs ≡ Some k
   pub inside : k < length xs
-  pub most : All (λ y. count y ≤ count (get_or xs k d)) xs
+  pub most : AllByRecursion (λ y. count y ≤ count (get_or xs k d)) xs
 
 module _ {X : Type 0} (f : X → ℕ) where
   -- one more element in front, which counts less than the greatest or does not

@@ -5,7 +5,7 @@ use mathlib.Core.Logic.{∥∥₁_elim}
 use denote.Struct.Props.{props}
 use std.HLevel.{Π_prop}
 use native.Mathlib.Bridge.{le_prop}
-use Rattle.std.specs.List.{AllByRecursion as All}
+use Rattle.std.specs.List.{AllByRecursion}
 use Rattle.std.proofs.lemmas.List.{length-set, length-map, get_or-set_same, get_or-set_other, set_past, length-replicate, get_or-replicate, get_or_past, nil_from_length}
 use Rattle.std.proofs.ByRecursion.{All-set, All-from_get_or}
 use Rattle.std.proofs.lemmas.List.Sums.{sum_by-set}
@@ -181,7 +181,7 @@ orderly_empty p n h =
 
 -- ---- out of the truncation
 
-pub all_prop : {X : Type 0} (P : X → Type 0) → ((x : X) → IsProp (P x)) → (xs : List X) → IsProp (All P xs)
+pub all_prop : {X : Type 0} (P : X → Type 0) → ((x : X) → IsProp (P x)) → (xs : List X) → IsProp (AllByRecursion P xs)
 all_prop P e [] a b = refl
 all_prop P e (x ∷ xs) a b = λ i. (e x a.0 b.0 i, all_prop P e xs a.1 b.1 i)
 

@@ -1,6 +1,6 @@
 -- Where a page is held lies on the card, so that it can be read, and what is gathered for a block are whole pages.
 use Rattle.std.proofs.Common.{◌≡◌, ℕ, suc, ◌+◌, ◌^◌, ◌<◌, Bool, true, false, cond, List, [], ◌∷◌, length, get_or, Some, None, Option, sym, refl, ap, ◌∙◌, inl, inr, arith}
-use Rattle.std.specs.List.{AllByRecursion as All}
+use Rattle.std.specs.List.{AllByRecursion}
 use Rattle.std.proofs.ByRecursion.{All-get_or}
 use Rattle.std.proofs.lemmas.Bool.{cases_lt, both_ways}
 use Rattle.flash.specs.Meaning.{page_at, block_count, Sound}
@@ -27,7 +27,7 @@ slot_inside d i (x ∷ xs) k e = go (is_at d i x) (slot_for d i xs) e (slot_insi
     go false (Some j) q rest = let z : suc j ≡ k = cc in omega (arith, rest j refl)
 
 place_inside :
-    (l n d i b : ℕ) (t : List (List Slot)) (p : ℕ × ℕ) → All (Filed l n) t → place_for d i b t ≡ Some p →
+    (l n d i b : ℕ) (t : List (List Slot)) (p : ℕ × ℕ) → AllByRecursion (Filed l n) t → place_for d i b t ≡ Some p →
     (p.0 < b + length t) × (p.1 < n)
 unfolding place_for
 place_inside l n d i b [] p a e = absurd (let z : ◌≡◌ {A = ℕ} 0 1 = cc in omega arith)

@@ -1,6 +1,6 @@
 -- Lists of slots that fit the plan: live slots are pages of it, no list is longer than a block, and every move keeps that.
 use Rattle.std.proofs.Common.{ℕ, ◌<◌, ◌≤◌, Bool, true, false, cond, List, [], ◌∷◌, ◌++◌, map, length, arith}
-use Rattle.std.specs.List.{AllByRecursion as All}
+use Rattle.std.specs.List.{AllByRecursion}
 use Rattle.std.proofs.lemmas.List.{length-map, length_push}
 use Rattle.std.proofs.ByRecursion.{All-map, All-weaker, All-push}
 use Rattle.rules.specs.State.{Slot, live, dead}
@@ -10,7 +10,7 @@ use Rattle.rules.specs.Ready.{Within, Filed}
 pub filed_none : (l n : ℕ) → Filed l n []
 filed_none l n = record { within = tt; short = omega arith }
 
-within_kept : (l n : ℕ) (xs : List Slot) → All (Within l n) xs → All (Within l n) (kept xs)
+within_kept : (l n : ℕ) (xs : List Slot) → AllByRecursion (Within l n) xs → AllByRecursion (Within l n) (kept xs)
 unfolding kept
 within_kept l n [] a = tt
 within_kept l n (live d i ∷ xs) a = (a.0, within_kept l n xs a.1)

@@ -1,6 +1,6 @@
 -- Sums over lists: pointwise laws, the exchange of two sums, and what a list that moves to another place changes.
 use Rattle.std.proofs.Common.{◌≡◌, ℕ, zero, suc, ◌+◌, ◌<◌, ◌≤◌, ◌≢◌, List, [], ◌∷◌, map, length, get_or, set, replicate, sum_by, sym, refl, ap, ◌∙◌, arith}
-use Rattle.std.specs.List.{AllByRecursion as All}
+use Rattle.std.specs.List.{AllByRecursion}
 use Rattle.std.proofs.lemmas.List.Sums.{sum_by-cons, sum_by-set}
 use Rattle.std.proofs.lemmas.List.{length-set, get_or-set_other}
 
@@ -22,7 +22,7 @@ module _ {X : Type 0} where
 
   -- at the elements of a list of which something is known
   pub sum_le_on :
-      (f g : X → ℕ) (P : X → Type 0) → ((x : X) → P x → f x ≤ g x) → (xs : List X) → All P xs → sum_by f xs ≤ sum_by g xs
+      (f g : X → ℕ) (P : X → Type 0) → ((x : X) → P x → f x ≤ g x) → (xs : List X) → AllByRecursion P xs → sum_by f xs ≤ sum_by g xs
   sum_le_on f g P e [] a = omega arith
   sum_le_on f g P e (x ∷ xs) a =
       omega (arith, sum_by-cons f x xs, sum_by-cons g x xs, e x a.0, sum_le_on f g P e xs a.1)

@@ -1,6 +1,6 @@
 -- What rounds of garbage collection add up to: every slot that they recover was dead, and each merge takes its share of the live ones.
 use Rattle.std.proofs.Common.{◌≡◌, ℕ, zero, suc, ◌+◌, ◌*◌, ◌<◌, ◌≤◌, Bool, true, false, ltb, List, [], ◌∷◌, ◌++◌, sum_by, sym, refl, ap, subst, ap₂, add-mul, arith}
-use Rattle.std.specs.List.{AllByRecursion as All}
+use Rattle.std.specs.List.{AllByRecursion}
 use Rattle.std.proofs.lemmas.List.Sums.{sum_by-cons, sum_by_push}
 use Rattle.std.proofs.ByRecursion.{All-push}
 use Rattle.std.proofs.lemmas.Bool.{ltb-true, ltb-false}
@@ -64,7 +64,7 @@ pub record ProperSums (rs : List Round) : Type 0 where
   pub recovers : compactions_in rs ≤ recovered_in rs
   pub data_le : data_erases_in rs ≤ merges_in rs
 
-pub proper_sums : (rs : List Round) → All Proper rs → ProperSums rs
+pub proper_sums : (rs : List Round) → AllByRecursion Proper rs → ProperSums rs
 proper_sums [] a = record { erases_are = refl; recovers = omega arith; data_le = omega arith }
 proper_sums (r ∷ rs) a =
     let p = a.0 in
@@ -81,7 +81,7 @@ proper_sums (r ∷ rs) a =
 
 pub record Worked (q : ℕ) (s : State) (w : Work) : Type 0 where
   pub leaves : Moved (erases_in w.rounds) s w.state
-  pub proper : All Proper w.rounds
+  pub proper : AllByRecursion Proper w.rounds
   pub slots : live_of w.state + dead_of w.state + recovered_in w.rounds ≡ live_of s + dead_of s
   pub shares : merges_in w.rounds * q + live_of w.state * s.plan.data ≤ live_of s * s.plan.data
 

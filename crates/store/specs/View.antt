@@ -1,6 +1,6 @@
 -- How the store's tables are read as the rules' maps, and what holds of them.
 use Rattle.std.specs.Prelude.{◌≡◌, ℕ, ◌≤◌, List, map, length, take}
-use Rattle.std.specs.List.{AllByRecursion as All}
+use Rattle.std.specs.List.{AllByRecursion}
 use Rattle.flash.specs.Meaning.{Card}
 use Rattle.rules.specs.declared.plan.Plan.{Plan}
 use Rattle.rules.specs.declared.pages.PageSet.{PageSet}
@@ -41,4 +41,4 @@ pub record Shaped (k : RegionBlock) : Type 0 where
 -- maps that are orderly, in tables of the right shape
 pub record Whole (p : Plan) (pages : ℕ) (sets : List PageSet) (table : List RegionBlock) (reserve : ℕ) : Type 0 where
   pub orderly : Orderly p pages (sets_of p sets) (table_of p table) reserve
-  pub shaped : All Shaped table
+  pub shaped : AllByRecursion Shaped table
