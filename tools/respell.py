@@ -1,5 +1,5 @@
 #!/usr/bin/env python3
-"""Brings the repository's own definitions and lemmas to snake case, by the table beside this file.
+"""Brings the repository's own definitions and lemmas to snake case, and types to camel case, by the table beside this file.
 
 usage: python3 tools/respell.py      at the top of the repository, once
 
@@ -12,7 +12,7 @@ import os
 import re
 
 HERE = os.path.dirname(os.path.realpath(__file__))
-NAME = re.compile(r"(?<![\w'\u25cc-])[a-z_][\w']*(?:-[\w'+]+)*(?![\w'-])")
+NAME = re.compile(r"(?<![\w'\u25cc-])[A-Za-z_][\w']*(?:-[\w'+]+)*(?![\w'-])")
 
 
 def table():

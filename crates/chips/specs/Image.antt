@@ -164,7 +164,7 @@ blanked_memory None g m = blank_image g m
 blanked_memory (Some fault) g m = m
 
 -- what is written into a header is read from it again
-abbrev pub Headers-return : Type 0
-Headers-return =
+abbrev pub HeadersReturn : Type 0
+HeadersReturn =
     (floor erases : ℕ) → floor ≤ 64 → erases ≤ 1000000 →
     (floor_in (header_bytes floor erases) ≡ floor) × (count_in (header_bytes floor erases) ≡ erases) × (spare_in (header_bytes floor erases) ≡ 0)

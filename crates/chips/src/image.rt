@@ -1,7 +1,7 @@
 ghost use Rattle.std.specs.Prelude.{◌≡◌, ◌+◌, ◌^◌, ◌<◌, ◌≤◌, false, [], ◌∷◌, length, replicate, is_some, None};
 ghost use borrow.Rule.Slice.PartMut.{put_mid};
 ghost use Rattle.flash.specs.Meaning.{blank_card, geometry_of};
-ghost use Rattle.chips.specs.Image.{header_bytes, floor_of, count_of, spare_of, floor_in, count_in, spare_in, block_length, image_length, Small, start_of, header_at, page_start, image_card, all_blank, good_header, room_fault, block_fault, image_fault, ImageOf, attached_card, fresh_block, blanked_memory, Headers-return};
+ghost use Rattle.chips.specs.Image.{header_bytes, floor_of, count_of, spare_of, floor_in, count_in, spare_in, block_length, image_length, Small, start_of, header_at, page_start, image_card, all_blank, good_header, room_fault, block_fault, image_fault, ImageOf, attached_card, fresh_block, blanked_memory, HeadersReturn};
 
 use crate::memory::Memory;
 use flash::block::PhysicalBlock;
@@ -57,7 +57,7 @@ fn header_bytes(floor: usize, erases: u32) -> [u8; HEADER_LENGTH]
 
 // What is written into a header is read from it again.
 pub fn headers_return() -> u8
-    ensures law { Headers-return }
+    ensures law { HeadersReturn }
     ensures example { header_bytes 4 1000 ≡ 0x08 ∷ 0x00 ∷ 0x7D ∷ 0x00 ∷ [] }
 {
     0

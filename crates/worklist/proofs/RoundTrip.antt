@@ -8,7 +8,7 @@ use Rattle.worklist.specs.declared.record.Head.{Head}
 use Rattle.worklist.specs.declared.record.Kind.{Kind}
 use Rattle.worklist.specs.declared.record.Kind.TheVariants.{Flush, Read, Discard, Idle}
 use Rattle.worklist.specs.Numbers.{kind_number, kind_for}
-use Rattle.worklist.specs.Records.{Item, flush_of, read_of, discard_of, idle_round, zeros_in, head_from, head_of, set_in, data_length, found_if, after_head, head_bytes, set_bytes, written, Records-return}
+use Rattle.worklist.specs.Records.{Item, flush_of, read_of, discard_of, idle_round, zeros_in, head_from, head_of, set_in, data_length, found_if, after_head, head_bytes, set_bytes, written, RecordsReturn}
 
 -- ---- the head
 
@@ -62,7 +62,7 @@ found_back :
 found_back n ys x at m h e =
     cond-true (leb n (length ys)) _ _ (le-leb n (length ys) h) ∙ ap (λ k. Ok (record { item = x; place = at; next = at + k })) e
 
-pub records_return : Records-return
+pub records_return : RecordsReturn
 records_return size at (flush_of b s x) rest f =
     let ys : List ℕ = head_bytes 1 b 0 ++ (set_bytes s ++ (x ++ rest)) in
     let bytes : ℕ = data_length size ys in

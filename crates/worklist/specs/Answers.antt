@@ -47,8 +47,8 @@ pub record Packs (a : AnswerRecord) : Type 0 where
   pub merges : a.merges < 128
 
 -- an answer that is written is read back as it was, whatever follows it
-abbrev pub Answers-return : Type 0
-Answers-return = (a : AnswerRecord) (rest : List ℕ) → Packs a → fields_in (fields_bytes a ++ rest) ≡ a
+abbrev pub AnswersReturn : Type 0
+AnswersReturn = (a : AnswerRecord) (rest : List ℕ) → Packs a → fields_in (fields_bytes a ++ rest) ≡ a
 
 -- the bytes that follow the fields: those of a page that was read
 abbrev pub page_of : Answer → List ℕ

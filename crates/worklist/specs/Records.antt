@@ -150,7 +150,7 @@ Fits size (discard_of block set) = (block < 128) × (set < 2 ^ 64)
 Fits size idle_round = Unit {0}
 
 -- a record that is written is read back as it was, whatever follows it
-abbrev pub Records-return : Type 0
-Records-return =
+abbrev pub RecordsReturn : Type 0
+RecordsReturn =
     (size at : ℕ) (item : Item) (rest : List ℕ) → Fits size item →
     read_one size at (written item ++ rest) ≡ Ok (record { item = item; place = at; next = at + length (written item) })

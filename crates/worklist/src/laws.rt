@@ -1,17 +1,17 @@
 // The laws of records and answers, each as the promise of a function: without their proofs the crate is refused.
-ghost use Rattle.worklist.specs.Answers.{Answers-return};
-ghost use Rattle.worklist.specs.Records.{Records-return};
+ghost use Rattle.worklist.specs.Answers.{AnswersReturn};
+ghost use Rattle.worklist.specs.Records.{RecordsReturn};
 
 // A record that is written is read back as it was.
 pub fn records_return() -> u8
-    ensures { Records-return }
+    ensures { RecordsReturn }
 {
     0
 }
 
 // An answer that is written is read back as it was.
 pub fn answers_return() -> u8
-    ensures { Answers-return }
+    ensures { AnswersReturn }
 {
     0
 }
