@@ -4,7 +4,7 @@
 usage: python3 tools/respell.py      at the top of the repository, once
 
 A line of respell.names is an old name and its new one. A name is replaced where it stands whole: in each .antt file,
-in the clauses and `ghost use` lines of each .rt file, and between backticks in README.md and docs/*.md.
+in the clauses and `ghost use` lines of each .rt file, and between backticks in README.md and docs/*.md, but for PORT.md.
 In comments only names in camel case are replaced, since words with a dash are English there.
 """
 
@@ -57,7 +57,8 @@ def main():
                 rewrite(path, lambda text: turned_lines(text, names, "--"))
             elif name.endswith(".rt"):
                 rewrite(path, lambda text: turned_lines(text, names, "//"))
-    pages = [os.path.join("docs", name) for name in os.listdir("docs")] + ["README.md"]
+    # PORT.md tells the old names
+    pages = [os.path.join("docs", name) for name in os.listdir("docs") if name != "PORT.md"] + ["README.md"]
     for path in pages:
         if path.endswith(".md"):
             rewrite(path, lambda text: turned_page(text, names))
