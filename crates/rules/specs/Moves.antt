@@ -1,5 +1,5 @@
 -- How pages move: compaction, merge, appending, and pages that are held no more.
-use Rattle.std.specs.Prelude.{ℕ, zero, suc, ◌+◌, Bool, true, false, cond, not, ◌&&◌, List, [], ◌∷◌, ◌++◌, map, length, get_or, is_some, Some, None, sum_by, Option, ◌==◌, nat_lt, slice_index, slice_index_or, slice_set}
+use Rattle.std.specs.Prelude.{ℕ, zero, suc, ◌+◌, Bool, true, false, cond, not, ◌&&◌, List, [], ◌∷◌, ◌++◌, map, length, is_some, Some, None, sum_by, Option, ◌==◌, nat_lt, slice_index, slice_index_or, slice_set}
 use Rattle.std.specs.List.{range_with_len}
 use Rattle.flash.specs.Meaning.{Card, page_at, floor_at, programmed, erased}
 use Rattle.rules.specs.Choice.{greatest}
@@ -57,7 +57,7 @@ copied from to (live d i ∷ xs) s t c = copied from to xs (s + 1) (t + 1) (prog
 -- the live pages of region block v go to the reserve; v is erased and becomes the reserve
 unfoldable pub compacted_at : State → ℕ → State
 compacted_at s v =
-    let slots = get_or s.table v [] in
+    let slots = slice_index_or s.table v [] in
     record {
       plan = s.plan;
       pages = s.pages;

@@ -1,5 +1,5 @@
 -- What the maps keep by themselves, and what ties them to the flash.
-use Rattle.std.specs.Prelude.{◌≡◌, ℕ, ◌+◌, ◌^◌, ◌<◌, ◌≤◌, cond, List, [], length, get_or, sum_by, count_by, slice_index, slice_index_or}
+use Rattle.std.specs.Prelude.{◌≡◌, ℕ, ◌+◌, ◌^◌, ◌<◌, ◌≤◌, cond, List, [], length, sum_by, count_by, slice_index, slice_index_or}
 use Rattle.std.specs.List.{AllByRecursion}
 use Rattle.flash.specs.Meaning.{block_count, floor_at, Sound}
 use Rattle.rules.specs.declared.plan.Plan.{Plan}
@@ -23,7 +23,7 @@ pub record Orderly (p : Plan) (pages : ℕ) (sets : List ℕ) (table : List (Lis
   pub rows : length table ≡ p.region
   pub filed : AllByRecursion (Filed p.data pages) table
   pub reserve_in : reserve < p.region
-  pub reserve_empty : get_or table reserve [] ≡ []
+  pub reserve_empty : slice_index_or table reserve [] ≡ []
   pub once : (d i : ℕ) → cond (has (slice_index sets d) i) 1 0 + sum_by (count_by (is_at d i)) table ≤ 1
 
 -- a flash that has room for the plan, and whose floors in the page-mapped region are the programmed slots
