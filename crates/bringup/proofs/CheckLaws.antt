@@ -1,42 +1,53 @@
 -- A pattern that is programmed reads back, and each step of the check leaves a flash on which the next can be made.
-use Rattle.std.proofs.Common.{◌≡◌, ℕ, zero, suc, ◌+◌, ◌-◌, ◌<◌, ◌≤◌, Bool, true, List, length, take, None, Decides, sym, refl, ap, ◌∙◌, add-one, arith}
-use Rattle.std.proofs.lemmas.List.{length-take}
+use Rattle.std.proofs.Common.{◌≡◌, ℕ, zero, suc, ◌+◌, ◌<◌, ◌≤◌, List, ◌++◌, length, take, None, sym, refl, ap, ◌∙◌, add-one, arith}
+use Rattle.std.proofs.Math.Seq.{take-length}
+use Rattle.std.proofs.lemmas.List.{length-take-le, take-append-le}
 use Rattle.std.proofs.lemmas.List.FromFn.{length-map-range_with_len}
 use Rattle.flash.specs.Meaning.{Card, block_at, block_count, page_at, floor_at, programmed, erased, Sound}
 use Rattle.flash.specs.Refusals.{read_refusal, erase_refusal}
 use Rattle.flash.proofs.CardLaws.{programmed_shape, programmed_count, programmed_page, programmed_floor, erased_shape, erased_count, erased_floor}
 use Rattle.flash.proofs.RefusalLaws.{CanProgram, can_erase, read_accepted}
-use Rattle.flash.proofs.SoundLaws.{programmed_sound, erased_sound}
+use Rattle.flash.proofs.SoundLaws.{programmed_sound}
 use Rattle.bringup.specs.Pattern.{pattern, pattern_byte}
 use Rattle.bringup.specs.declared.report.BlockOutcome.{BlockOutcome}
 use Rattle.bringup.specs.declared.report.BlockOutcome.TheVariants.{ErasedFirst}
 use Rattle.bringup.specs.Checked.{patterned, checked_as}
-use Rattle.bringup.specs.Ready.{Buffered}
 
 pub pattern_length : (b p n : ℕ) → length (pattern b p n) ≡ n
 unfolding pattern
 pattern_length b p n = length-map-range_with_len (pattern_byte b p) 0 n
 
--- the same block can be written on, with the same buffers
-pub buffered_as :
-    (c d : Card) (b w f : ℕ) → d.shape ≡ c.shape → block_count d ≡ block_count c → Sound d → Buffered c b w f → Buffered d b w f
-buffered_as c d b w f e n s h =
-    record { sound = s; inside = rw n h.inside; written_size = rw e h.written_size; found_size = rw e h.found_size }
+-- what stands at the head of a buffer
+pub head_is : (size n : ℕ) (page rest x : List ℕ) → page ≡ x → length x ≡ n → size ≡ n → take size (page ++ rest) ≡ x
+head_is size n page rest x is long whole =
+    let fits : length page ≡ size = ap length is ∙ long ∙ sym whole in
+    take-append-le size page rest (omega arith) ∙ ap (λ k. take k page) (sym fits) ∙ take-length page ∙ is
 
--- one page: what was programmed reads back
-module _ (c d : Card) (b p : ℕ) (x y : List ℕ) (s : Sound c) (can : CanProgram c b p (length x)) (e : d ≡ programmed c b p x) where
-  page_there : page_at d b p ≡ x
-  page_there =
-      let l : p < length (block_at c b).pages = omega (arith, (s.each b can.block).page_count, can.page) in
-      rw e (programmed_page c b p x can.block l)
+-- a page was programmed from the head of a buffer: it reads back into the head of another
+pub record PageDone (c d : Card) (b p size : ℕ) (page rest : List ℕ) : Type 0 where
+  pub written : take size (page ++ rest) ≡ pattern b p c.shape.size
+  pub reads : (buffer : List ℕ) → length buffer ≡ 4096 → read_refusal d b p (length (take size buffer)) ≡ None
+  pub found : (back : List ℕ) (behind : List ℕ) → back ≡ page_at d b p → take size (back ++ behind) ≡ pattern b p c.shape.size
 
-  pub reads_back : (same : Bool) → Decides same (x ≡ y) → y ≡ page_at d b p → same ≡ true
-  reads_back same h r = h.1 (sym (r ∙ page_there))
-
-  pub read_goes : (n : ℕ) → n ≡ c.shape.size → read_refusal d b p n ≡ None
-  read_goes n q =
-      rw e (read_accepted (programmed c b p x) b p n
-      (record { block = rw (programmed_count c b p x) can.block; page = rw (programmed_shape c b p x) can.page; bytes = rw (programmed_shape c b p x) q }))
+pub page_done :
+    (c d : Card) (b p size : ℕ) (buffer page rest : List ℕ) → Sound c → CanProgram c b p c.shape.size → size ≡ c.shape.size →
+    length buffer ≡ 4096 → page ≡ pattern b p (length (take size buffer)) → d ≡ programmed c b p (take size (page ++ rest)) →
+    PageDone c d b p size page rest
+page_done c d b p size buffer page rest s can is long filled done =
+    let x = pattern b p c.shape.size in
+    let l = pattern_length b p c.shape.size in
+    let head : (y : List ℕ) → length y ≡ 4096 → length (take size y) ≡ c.shape.size = λ y h. length-take-le size y (omega (arith, s.size_high)) ∙ is in
+    let written = head_is size c.shape.size page rest x (filled ∙ ap (pattern b p) (head buffer long)) l is in
+    let e : d ≡ programmed c b p x = done ∙ ap (programmed c b p) written in
+    let k : p < length (block_at c b).pages = omega (arith, (s.each b can.block).page_count, can.page) in
+    let there : page_at d b p ≡ x = rw e (programmed_page c b p x can.block k) in
+    record {
+      written = written;
+      reads = λ y h.
+          rw e (read_accepted (programmed c b p x) b p (length (take size y))
+          (record { block = rw (programmed_count c b p x) can.block; page = rw (programmed_shape c b p x) can.page; bytes = rw (programmed_shape c b p x) (head y h) }));
+      found = λ back behind h. head_is size c.shape.size back behind x (h ∙ there) l is;
+    }
 
 -- a block that was blank, with the pattern in its pages below n
 pub record Patterning (c : Card) (b n : ℕ) (d : Card) : Type 0 where
@@ -63,32 +74,23 @@ module _ (c : Card) (b : ℕ) (s : Sound c) (h : b < block_count c) (z : floor_a
       }
 
   -- the next page can be written
-  pub next_page : (d : Card) (n w f : ℕ) → n < c.shape.pages → d ≡ patterned c b n → Buffered c b w f →
-      Buffered d b w f × ((n < d.shape.pages) × (floor_at d b ≤ n))
-  next_page d n w f l e i =
+  pub next_page : (d : Card) (n : ℕ) → n < c.shape.pages → d ≡ patterned c b n → (b < block_count d) × ((n < d.shape.pages) × (floor_at d b ≤ n))
+  next_page d n l e =
       let p = patterning n (omega arith) in
-      rw e (buffered_as c (patterned c b n) b w f p.shape p.count p.sound i, (rw p.shape l, p.floor))
+      rw e (rw p.count h, (rw p.shape l, p.floor))
 
--- one page more, on a card that has the pattern below it
-pub patterned_more :
-    (c d e : Card) (b n : ℕ) → d ≡ patterned c b n → d.shape ≡ c.shape → e ≡ programmed d b n (pattern b n d.shape.size) → e ≡ patterned c b (n + 1)
-unfolding patterned
-patterned_more c d e b n i s h = rw add-one (h ∙ ap (λ k. programmed d b n (pattern b n k)) (ap (λ t. t.size) s) ∙ ap (λ k. programmed k b n (pattern b n c.shape.size)) i)
-
--- the first bytes of two buffers can serve as pages
-pub page_buffers :
-    (c : Card) (b size : ℕ) (w f : List ℕ) → Sound c → b < block_count c → size ≡ c.shape.size → length w ≡ 4096 → length f ≡ 4096 →
-    Buffered c b (length (take (size - 0) w)) (length (take (size - 0) f))
-page_buffers c b size w f s h e lw lf =
-    rw (length-take (size - 0) w, length-take (size - 0) f)
-    (record { sound = s; inside = h; written_size = omega (arith, s.size_high); found_size = omega (arith, s.size_high) })
+  -- one page more, on a card that has the pattern below it
+  pub patterned_more :
+      (d e : Card) (n : ℕ) → n ≤ c.shape.pages → d ≡ patterned c b n → e ≡ programmed d b n (pattern b n d.shape.size) → e ≡ patterned c b (n + 1)
+  unfolding patterned
+  patterned_more d e n l i done =
+      rw add-one (done ∙ ap (λ k. programmed k b n (pattern b n k.shape.size)) i
+      ∙ ap (λ t. programmed (patterned c b n) b n (pattern b n t.size)) (patterning n l).shape)
 
 -- an erased block is blank, and can be written on
-module _ (c d : Card) (b : ℕ) (s : Sound c) (ok : erase_refusal c b ≡ None) (e : d ≡ erased c b) where
-  pub erased_ready : Sound d × ((b < block_count d) × (floor_at d b ≡ 0))
-  erased_ready =
-      let can = can_erase c b ok in
-      rw e (erased_sound c b can s, (rw (erased_count c b) can.block, erased_floor c b can.block))
+module _ (c d : Card) (b : ℕ) (ok : erase_refusal c b ≡ None) (e : d ≡ erased c b) where
+  pub erased_ready : (b < block_count d) × (floor_at d b ≡ 0)
+  erased_ready = let can = can_erase c b ok in rw e (rw (erased_count c b) can.block, erased_floor c b can.block)
 
   -- then the pattern
   pub erased_first :

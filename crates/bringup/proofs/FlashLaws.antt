@@ -1,5 +1,6 @@
 -- The blocks of a flash checked one after the other: the flash stays sound, and the summary stays small.
-use Rattle.std.proofs.Common.{◌≡◌, ℕ, zero, suc, ◌+◌, ◌*◌, ◌<◌, ◌≤◌, List, set, refl, ap, ◌∙◌, add-one, arith}
+use Rattle.std.proofs.Common.{◌≡◌, ℕ, zero, suc, ◌+◌, ◌*◌, ◌<◌, ◌≤◌, List, ◌++◌, length, set, sym, refl, ap, ◌∙◌, add-one, arith}
+use Rattle.std.proofs.lemmas.List.{length-set, set-append_left}
 use Rattle.std.proofs.lemmas.Bool.Decides.{nat_tests}
 use Rattle.flash.specs.Meaning.{Card, block_count, floor_at, erased, Sound}
 use Rattle.flash.proofs.CardLaws.{erased_shape, erased_count, erased_floor}
@@ -52,8 +53,24 @@ alike_below c (suc n) s h =
     (alike_checked (checked_below n c) n a.sound (rw a.count h))
 
 -- the next block can be checked
-pub block_ready : (c d : Card) (n : ℕ) → Sound c → n < block_count c → d ≡ checked_below n c → Sound d × (n < block_count d)
-block_ready c d n s h e = let a = alike_below c n s (omega arith) in rw e (a.sound, rw a.count h)
+pub block_ready : (c d : Card) (n : ℕ) → Sound c → n < block_count c → d ≡ checked_below n c → n < block_count d
+block_ready c d n s h e = let a = alike_below c n s (omega arith) in rw e (rw a.count h)
+
+-- the outcomes noted in the front of a table
+noted_length : (n : ℕ) (c : Card) (table : List BlockOutcome) → length (noted_below n c table) ≡ length table
+unfolding noted_below
+noted_length zero c table = refl
+noted_length (suc n) c table =
+    length-set (noted_below n c table) n (outcome_of (checked_below n c) n) ∙ noted_length n c table
+
+pub noted_front :
+    (n : ℕ) (c : Card) (front rest : List BlockOutcome) → n ≤ length front → noted_below n c front ++ rest ≡ noted_below n c (front ++ rest)
+unfolding noted_below
+noted_front zero c front rest h = refl
+noted_front (suc n) c front rest h =
+    let o = outcome_of (checked_below n c) n in
+    sym (set-append_left (noted_below n c front) rest n o (omega (arith, noted_length n c front)))
+    ∙ ap (λ (xs : List BlockOutcome). set xs n o) (noted_front n c front rest (omega arith))
 
 -- what the summary of n blocks can come to
 pub record Few (n : ℕ) (s : Summary) : Type 0 where

@@ -1,13 +1,8 @@
 -- The five trials of a probe, each on a flash that the one before left as it was.
-use Rattle.std.proofs.Common.{◌≡◌, ℕ, ◌-◌, ◌≤◌, List, [], ◌∷◌, length, take, Option, refl, arith}
-use Rattle.std.proofs.lemmas.List.{length-take}
+use Rattle.std.proofs.Common.{◌≡◌, ℕ, [], ◌∷◌, Option, refl}
 use Rattle.flash.specs.Meaning.{Card, block_count}
 use Rattle.flash.specs.Refusals.{erase_refusal, read_refusal}
 use Rattle.bringup.specs.Probed.{below_floor, worn_out, probed}
-
--- a part of a buffer that is long enough
-pub part_length : (size n : ℕ) (xs : List ℕ) → size ≡ n → n ≤ length xs → length (take (size - 0) xs) ≡ n
-part_length size n xs e h = rw (length-take (size - 0) xs) (omega arith)
 
 pub five_trials :
     (c d f : Card) (pages n z : ℕ) (o₁ o₂ o₃ o₄ o₅ : Option ℕ) → d ≡ c → f ≡ d → pages ≡ c.shape.pages → n ≡ c.shape.size → z ≡ 0 →

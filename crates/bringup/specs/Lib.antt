@@ -1,4 +1,4 @@
 pub mod Checked
 pub mod Pattern
+pub mod Printed
 pub mod Probed
-pub mod Ready

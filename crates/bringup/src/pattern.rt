@@ -15,7 +15,7 @@ fn pattern_byte(block: PhysicalBlock, page: usize, place: usize) -> u8
 pub fn fill_pattern(block: PhysicalBlock, page: usize, into: &mut [u8])
     ensures { into.new ≡ pattern block.0 page (length into.old) }
 {
-    for place in 0..into.len() {
-        into[place] = pattern_byte(block, page, place);
+    for (place, byte) in into.iter_mut().enumerate() {
+        *byte = pattern_byte(block, page, place);
     }
 }

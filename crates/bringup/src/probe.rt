@@ -7,6 +7,7 @@ ghost use Rattle.bringup.specs.Probed.{below_floor, worn_out, probed};
 
 use flash::block::PhysicalBlock;
 use flash::device::Flash;
+use flash::geometry::Geometry;
 use flash::refusal::Refusal;
 
 // Tries to erase a block that does not exist.
@@ -34,8 +35,9 @@ fn program_below<F: Flash>(flash: &mut F) -> Option<Refusal>
     if flash.floor(PhysicalBlock(0)) == 0 {
         return None;
     }
+    // as long as the longest page, since there is no heap
     let page = [0u8; 4096];
-    flash.program(PhysicalBlock(0), 0, &page[0..size]).err()
+    flash.program(PhysicalBlock(0), 0, &page[..size]).err()
 }
 
 // Tries to erase block 0, where it has had all of its erases.
@@ -54,12 +56,12 @@ pub fn probe_refusals<F: Flash>(flash: &mut F) -> [Option<Refusal>; 5]
     ensures tells { map (option_map number_of) result ≡ probed (F.card flash.old) }
     ensures leaves { F.card flash.new ≡ F.card flash.old }
 {
-    let pages = flash.geometry().pages;
-    let size = flash.geometry().size;
+    let Geometry { pages, size, .. } = flash.geometry();
+    // as long as the longest page, since there is no heap
     let mut page = [0u8; 4096];
     let no_block = erase_past(flash);
-    let no_page = read_refused(flash, pages, &mut page[0..size]);
-    let wrong_length = read_refused(flash, 0, &mut page[0..0]);
+    let no_page = read_refused(flash, pages, &mut page[..size]);
+    let wrong_length = read_refused(flash, 0, &mut []);
     let below_floor = program_below(flash);
     let worn_out = erase_worn(flash);
     [no_block, no_page, wrong_length, below_floor, worn_out]

@@ -16,47 +16,26 @@ use flash::geometry::Geometry;
 use stack::check_stack;
 use std::io;
 
-// How an outcome is printed.
-fn word(outcome: BlockOutcome) -> &'static str {
-    match outcome {
-        BlockOutcome::Worn => "worn, left alone",
-        BlockOutcome::Programmed => "programmed",
-        BlockOutcome::ErasedFirst => "erased and programmed",
-    }
-}
-
 // Prints a line for each block, and a summary.
+// The four meet here alone: a struct of them would be made only to be taken apart.
 fn print_report(
     rt: &HostRuntime,
     name: &str,
     outcomes: &[BlockOutcome; 256],
     summary: Summary,
 ) -> io::Result<()> {
-    let Summary {
-        blocks,
-        worn,
-        erased,
-        programmed,
-        mismatched,
-    } = summary;
-    for (number, outcome) in outcomes.iter().enumerate().take(blocks as usize) {
-        let word = word(*outcome);
-        println!(rt; "block {number}: {word}")?;
+    for (number, outcome) in outcomes.iter().enumerate().take(summary.blocks as usize) {
+        println!(rt; "block {number}: {outcome}")?;
     }
-    println!(rt;
-        "{name}: {blocks} blocks, {worn} worn, {erased} erased, {programmed} pages programmed, {mismatched} mismatched"
-    )
+    println!(rt; "{name}: {summary}")
 }
 
-// Prints the numbers of the refusals that a probe meets.
+// Prints the numbers of the refusals that a probe meets, on one line. No `Display`: an array of options is the library's.
 fn print_refusals<F: Flash>(rt: &HostRuntime, flash: &mut F) -> io::Result<()> {
     print!(rt; "refused:")?;
     for refusal in probe_refusals(flash) {
         match refusal {
-            Some(refusal) => {
-                let number = refusal.number();
-                print!(rt; " {number}")?;
-            }
+            Some(refusal) => print!(rt; " {}", u8::from(refusal))?,
             None => print!(rt; " -")?,
         }
     }

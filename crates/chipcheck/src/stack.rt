@@ -18,8 +18,10 @@ pub fn check_stack<L: Flash + Drop, R: Flash + Drop>(
     bad: &[PhysicalBlock],
     outcomes: &mut [BlockOutcome; 256],
 ) -> Summary
-    ensures notes { outcomes.new ≡ noted_below (block_count (stack_card (L.card left) left_bad.now (R.card right) right_bad.now bad.now)) (stack_card (L.card left) left_bad.now (R.card right) right_bad.now bad.now) outcomes.old }
-    ensures tells { result ≡ summary_below (block_count (stack_card (L.card left) left_bad.now (R.card right) right_bad.now bad.now)) (stack_card (L.card left) left_bad.now (R.card right) right_bad.now bad.now) }
+    ensures notes { let c = stack_card (L.card left) left_bad.now (R.card right) right_bad.now bad.now in
+        outcomes.new ≡ noted_below (block_count c) c outcomes.old }
+    ensures tells { let c = stack_card (L.card left) left_bad.now (R.card right) right_bad.now bad.now in
+        result ≡ summary_below (block_count c) c }
 {
     let mut stack = stacked(left, left_bad, right, right_bad, bad);
     check_flash(&mut stack, outcomes)

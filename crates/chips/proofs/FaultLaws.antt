@@ -1,26 +1,9 @@
--- Tests for blank bytes and for the first fault: what they find, and the steps of the loops that make them.
-use Rattle.std.proofs.Common.{◌≡◌, ℕ, zero, suc, ◌+◌, ◌-◌, ◌<◌, ◌≤◌, Bool, true, false, ◌&&◌, eqb, List, [], ◌∷◌, map, length, get_or, drop, replicate, is_some, Some, None, Option, sym, refl, ap, ◌∙◌, ⊎_elim, arith}
+-- Tests for blank bytes and for the first fault: what they find, and the steps of the loop that makes them.
+use Rattle.std.proofs.Common.{◌≡◌, ℕ, zero, suc, ◌+◌, ◌-◌, ◌<◌, ◌≤◌, true, false, eqb, List, [], ◌∷◌, map, length, replicate, is_some, Some, None, Option, sym, refl, ap, ◌∙◌, ⊎_elim, arith}
 use Rattle.std.specs.List.{range_with_len}
-use Rattle.std.proofs.lemmas.List.{at_drop_more, at_drop_all}
-use Rattle.std.proofs.lemmas.Bool.{cases_eq, and_parts, eqb-true, eq-eqb, ne_eqb}
+use Rattle.std.proofs.lemmas.Bool.{cases_eq, and_parts, eqb-true}
 use Rattle.flash.specs.declared.making.MakingFault.{MakingFault}
 use Rattle.chips.specs.Image.{all_blank, first_fault}
-
--- one byte further
-pub blank_more : (xs : List ℕ) (i : ℕ) → i < length xs → get_or xs i 0 ≡ 255 → all_blank (drop (i + 1) xs) ≡ all_blank (drop i xs)
-blank_more xs i h e =
-    let a : all_blank (drop i xs) ≡ (eqb (get_or xs i 0) 255 && all_blank (drop (i + 1) xs)) = at_drop_more all_blank xs i 0 h in
-    sym (a ∙ ap (λ (t : Bool). t && all_blank (drop (i + 1) xs)) (eq-eqb (get_or xs i 0) 255 e))
-
--- a byte other than 255
-pub blank_stop : (xs : List ℕ) (i : ℕ) → i < length xs → (get_or xs i 0 ≡ 255 → ⊥) → all_blank (drop i xs) ≡ false
-blank_stop xs i h e =
-    let a : all_blank (drop i xs) ≡ (eqb (get_or xs i 0) 255 && all_blank (drop (i + 1) xs)) = at_drop_more all_blank xs i 0 h in
-    a ∙ ap (λ (t : Bool). t && all_blank (drop (i + 1) xs)) (ne_eqb (get_or xs i 0) 255 e)
-
--- no byte is left
-pub blank_all : (xs : List ℕ) (i : ℕ) → length xs ≤ i → all_blank (drop i xs) ≡ true
-blank_all xs i h = let a : all_blank (drop i xs) ≡ true = at_drop_all all_blank xs i h in a
 
 -- bytes that are all 255
 pub blank_is : (xs : List ℕ) → all_blank xs ≡ true → xs ≡ replicate (length xs) 255
@@ -39,7 +22,7 @@ is_blank (suc n) = is_blank n
 -- there is no fault where none is some
 pub none_is : (o : Option MakingFault) → is_some o ≡ false → o ≡ None
 none_is None e = refl
-none_is (Some fault) e = let z : ◌≡◌ {A = ℕ} 0 1 = cc in absurd (omega arith)
+none_is (Some fault) e = cc
 
 -- a test before others
 module _ (o : Option MakingFault) (tests : List (Option MakingFault)) where
@@ -54,7 +37,7 @@ module _ (o : Option MakingFault) (tests : List (Option MakingFault)) where
 
 pub both_none : (o : Option MakingFault) (tests : List (Option MakingFault)) → first_fault (o ∷ tests) ≡ None → (o ≡ None) × (first_fault tests ≡ None)
 both_none None tests e = (refl, e)
-both_none (Some fault) tests e = let z : ◌≡◌ {A = ℕ} 0 1 = cc in absurd (omega arith)
+both_none (Some fault) tests e = cc
 
 -- the tests of all places from one on
 module _ (f : ℕ → Option MakingFault) where

@@ -1,15 +1,16 @@
 -- A memory that was made blank is the image of a flash that was never used.
 use Rattle.std.proofs.Common.{◌≡◌, ℕ, zero, suc, ◌+◌, ◌-◌, ◌*◌, ◌<◌, ◌≤◌, List, ◌++◌, length, take, drop, replicate, None, sym, refl, ap, ◌∙◌, add-mul, one-mul, arith}
 use borrow.Rule.Slice.PartMut.{put_mid}
-use Rattle.std.proofs.lemmas.List.{append-nil, append_assoc, length-append, length-replicate, length-drop, drop_at, drop-drop, drop-append-le, take-append-le, drop-replicate, take-replicate}
+use Rattle.std.proofs.lemmas.List.{append-nil, append_assoc, length-append, length-replicate, length-take-le, length-drop, drop_at, drop-drop, drop-append-le, take-append-le, drop-replicate, take-replicate}
 use Rattle.flash.specs.declared.geometry.Geometry.{Geometry}
 use Rattle.flash.specs.Meaning.{blank_card}
 use Rattle.flash.proofs.SoundLaws.{Limited, blank_card_sound}
-use Rattle.chips.specs.Image.{header_length, floor_in, count_in, spare_in, pages_length, block_length, image_length, start_of, header_at, page_start, image_page, image_block, image_card, room_fault, ImageOf, blank_pages, fresh_block, repeated, blank_image}
+use Rattle.chips.specs.Image.{header_length, floor_in, count_in, spare_in, block_length, image_length, start_of, header_at, page_start, image_page, image_block, image_card, room_fault, ImageOf, blank_pages, fresh_block, repeated, blank_image}
+use Rattle.chips.specs.Layout.{pages_length}
 use Rattle.chips.proofs.Cards.{same_block, laid_blank}
 use Rattle.chips.proofs.Counting.{counting_replicate}
 use Rattle.chips.proofs.ImageFaults.{whole_fault, room_good}
-use Rattle.chips.proofs.Rows.{rows_apart, put_after, put_put}
+use Rattle.chips.proofs.Rows.{rows_apart, length_put, put_after, put_put}
 
 -- a row more
 next_row : (l k : ℕ) → (k + 1) * l ≡ l + k * l
@@ -49,16 +50,34 @@ module _ (g : Geometry) where
   fresh_length : length (fresh_block g) ≡ block_length g
   fresh_length = omega (arith, length-replicate {A = ℕ} (pages_length g) 255)
 
-  -- the header and then the pages of a block are written
-  pub fresh_block_lem :
-      (m m₁ m₂ : List ℕ) (b o a : ℕ) → start_of g b + block_length g ≤ length m → o ≡ start_of g b → a ≡ page_start g b 0 →
-      m₁ ≡ put_mid o header_length m (replicate header_length 0) → m₂ ≡ put_mid a (pages_length g) m₁ (blank_pages g) →
-      m₂ ≡ put_mid (start_of g b) (block_length g) m (fresh_block g)
-  fresh_block_lem m m₁ m₂ b o a fits start at first second =
-      let e : a ≡ o + header_length = omega arith in
-      let f : o ≤ length m = omega arith in
-      second ∙ rw (e, first) (put_put m (replicate header_length 0) (blank_pages g) o header_length (pages_length g) f refl)
-      ∙ ap (λ k. put_mid k (block_length g) m (fresh_block g)) start
+  -- the header and then the pages of a block are filled
+  module _
+      (m z p : List ℕ) (b o a e : ℕ) (fits : start_of g b + block_length g ≤ length m)
+      (start : o ≡ start_of g b) (at : a ≡ page_start g b 0) (end : e ≡ a + pages_length g)
+      (zeros : z ≡ replicate (length (take (a - o) (drop o m))) 0)
+      (blanks : p ≡ replicate (length (take (e - a) (drop a (put_mid o (a - o) m z)))) 255) where
+    head : a - o ≡ header_length
+    head = omega arith
+
+    tail : e - a ≡ pages_length g
+    tail = omega arith
+
+    header_zeros : z ≡ replicate header_length 0
+    header_zeros =
+        zeros ∙ ap (λ n. replicate n 0) (length-take-le (a - o) (drop o m) (rw (length-drop o m) (omega arith)) ∙ head)
+
+    pages_blank : p ≡ blank_pages g
+    pages_blank =
+        let same : length (put_mid o (a - o) m z) ≡ length m = length_put m z o (a - o) (omega arith) (ap length header_zeros ∙ sym head) in
+        blanks
+        ∙ ap (λ n. replicate n 255) (length-take-le (e - a) (drop a (put_mid o (a - o) m z)) (rw (length-drop a (put_mid o (a - o) m z), same) (omega arith)) ∙ tail)
+
+    pub fresh_block_lem : put_mid a (e - a) (put_mid o (a - o) m z) p ≡ put_mid (start_of g b) (block_length g) m (fresh_block g)
+    fresh_block_lem =
+        let next : a ≡ o + header_length = omega arith in
+        let f : o ≤ length m = omega arith in
+        rw (head, tail, header_zeros, pages_blank, next) (put_put m (replicate header_length 0) (blank_pages g) o header_length (pages_length g) f refl)
+        ∙ ap (λ k. put_mid k (block_length g) m (fresh_block g)) start
 
   -- one block more is written
   pub fresh_more :

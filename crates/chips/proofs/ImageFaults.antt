@@ -1,7 +1,10 @@
 -- What the tests of an image find, and that an image without fault is a sound one.
-use Rattle.std.proofs.Common.{◌≡◌, ℕ, ◌+◌, ◌-◌, ◌<◌, ◌≤◌, Bool, true, false, cond, List, [], map, length, take, drop, replicate, is_some, Some, None, sym, refl, ap, ◌∙◌, arith}
+use Rattle.std.proofs.Common.{◌≡◌, ℕ, zero, suc, ◌+◌, ◌-◌, ◌*◌, ◌<◌, ◌≤◌, Bool, true, false, cond, ◌&&◌, ◌==◌, List, [], ◌∷◌, map, length, take, drop, replicate, is_some, Some, None, Option, sym, refl, ap, ◌∙◌, arith}
 use Rattle.std.specs.List.{range_with_len}
-use Rattle.std.proofs.lemmas.List.{length-replicate, length-take-le, length-drop}
+use Rattle.std.proofs.lemmas.List.{length-replicate, length-take-le, length-drop, drop-drop}
+use Rattle.std.proofs.Math.Nat.{mul-sub}
+use Rattle.std.proofs.Math.Seq.{take-add}
+use Rattle.std.proofs.lemmas.List.Folds.{list_all-append}
 use Rattle.std.proofs.lemmas.List.FromFn.{length-map-range_with_len}
 use Rattle.std.proofs.lemmas.Bool.Decides.{nat_tests}
 use Rattle.flash.specs.declared.geometry.Geometry.{Geometry}
@@ -9,7 +12,7 @@ use Rattle.flash.specs.declared.making.MakingFault.{MakingFault}
 use Rattle.flash.specs.declared.making.MakingFault.TheVariants.{BadHeader, NotBlank}
 use Rattle.flash.specs.Meaning.{blank_block, blank_card, no_card, geometry_of, Sound, SoundBlock}
 use Rattle.flash.proofs.SoundLaws.{Limited, limited, sound_as, blank_card_sound, no_card_sound}
-use Rattle.chips.specs.Image.{floor_in, count_in, spare_in, block_length, image_length, Small, start_of, header_at, page_start, image_page, image_block, image_card, all_blank, first_fault, room_fault, good_header, header_fault, page_fault, block_fault, image_fault, ImageOf, attached_card}
+use Rattle.chips.specs.Image.{HeaderOf, floor_in, count_in, spare_in, block_length, image_length, start_of, header_at, page_start, image_page, image_block, image_card, all_blank, first_fault, room_fault, good_header, header_fault, page_fault, block_fault, image_fault, ImageOf, attached_card}
 use Rattle.chips.proofs.Counting.{counting_at}
 use Rattle.chips.proofs.FaultLaws.{blank_is, is_blank, none_is, after_none, first_some, both_none, none_both, each_none, none_each}
 use Rattle.chips.proofs.ImageLaws.{image_count, image_geometry, image_here, block_end, page_end}
@@ -20,9 +23,6 @@ room_good g n e = (limited g (grind (arith, nat_tests)), grind (arith, nat_tests
 
 good_room : (g : Geometry) (n : ℕ) → Limited g → image_length g ≤ n → room_fault g n ≡ None
 good_room g n l h = grind (arith, nat_tests)
-
-pub room_small : (g : Geometry) → Limited g → Small g
-room_small g l = (l.blocks_high, l.pages_high, l.size_high)
 
 -- a header without fault
 record GoodHeader (g : Geometry) (h : List ℕ) : Type 0 where
@@ -35,7 +35,6 @@ header_good g h b e = record { floor = grind (arith, nat_tests); count = grind (
 
 -- all ghost fields of a chip
 pub record Kept (g : Geometry) (m : List ℕ) : Type 0 where
-  pub small : Small g
   pub room : image_length g ≤ length m
   pub whole : is_some (image_fault g m) ≡ false
 
@@ -95,7 +94,7 @@ pub record Whole (g : Geometry) (m : List ℕ) : Type 0 where
   pub spare : (b : ℕ) → b < g.blocks → spare_in (header_at g m b) ≡ 0
 
 module _ (g : Geometry) (m : List ℕ) where
-  pub fault_whole : image_fault g m ≡ None → Whole g m
+  fault_whole : image_fault g m ≡ None → Whole g m
   unfolding image_card image_fault
   fault_whole e =
       let q = both_none (room_fault g (length m)) (map (block_fault g m) (range_with_len 0 g.blocks)) e in
@@ -139,7 +138,7 @@ module _ (g : Geometry) (m : List ℕ) where
   unfolding image_card
   chip_keeps e =
       let w = fault_whole e in
-      record { small = (rw (image_count g m) at w.sound.blocks_high, w.sound.pages_high, w.sound.size_high); room = w.room; whole = ap is_some e }
+      record { room = w.room; whole = ap is_some e }
 
   -- its memory can be taken up again, and then shows the same card
   pub chip_again : (m' : List ℕ) → is_some (image_fault g m) ≡ false → m' ≡ m → ImageOf (geometry_of (image_card g m)) m' (image_card g m)
@@ -147,7 +146,7 @@ module _ (g : Geometry) (m : List ℕ) where
       rw (same, ← image_geometry g m) (record { whole = none_is (image_fault g m) e; means = refl })
 
 -- no blocks need no memory, and mean the flash without blocks
-abbrev no_geometry : Geometry
+abbrev pub no_geometry : Geometry
 no_geometry = record { blocks = 0; pages = 2; size = 4; endurance = 1 }
 
 none_card : (m : List ℕ) → image_card no_geometry m ≡ no_card
@@ -178,26 +177,42 @@ module _ (g : Geometry) (m : List ℕ) where
   unfolding image_fault
   image_blocks = after_none (room_fault g (length m)) (map (block_fault g m) (range_with_len 0 g.blocks))
 
--- what a test of a block's header finds
-module _ (g : Geometry) (m : List ℕ) (b f k s : ℕ) (floor : f ≡ floor_in (header_at g m b)) (erases : k ≡ count_in (header_at g m b)) (spare : s ≡ spare_in (header_at g m b)) where
-  header_tested : (t : Bool) → t ≡ good_header g f k s → cond t None (Some (BadHeader (record { 0 = b }))) ≡ header_fault g (header_at g m b) b
-  header_tested t e = rw (e, floor, erases, spare) refl
+-- a test of two parts finds what a test of the one and then tests of the other find
+both_tested :
+    (t u : Bool) (fault : MakingFault) (tests : List (Option MakingFault)) → cond u None (Some fault) ≡ first_fault tests →
+    cond (t && u) None (Some fault) ≡ first_fault (cond t None (Some fault) ∷ tests)
+both_tested true u fault tests e = e
+both_tested false u fault tests e = refl
 
-  pub block_bad : false ≡ good_header g f k s → Some (BadHeader (record { 0 = b })) ≡ block_fault g m b
-  unfolding block_fault
-  block_bad e = first_some (header_fault g (header_at g m b) b) _ (BadHeader (record { 0 = b })) (header_tested false e)
+-- what a test of a block finds
+module _ (g : Geometry) (m : List ℕ) (b : ℕ) where
+  -- pages that lie side by side are tested at once
+  pages_tested : (n f : ℕ) → cond (all_blank (take (n * g.size) (drop (page_start g b f) m))) None (Some (NotBlank (record { 0 = b }))) ≡ first_fault (map (page_fault g m b) (range_with_len f n))
+  pages_tested zero f = rw (let e : 0 * g.size ≡ 0 = omega arith in e) refl
+  pages_tested (suc n) f =
+      let rest : List ℕ = drop (page_start g b f) m in
+      let size : suc n * g.size ≡ g.size + n * g.size = omega arith in
+      let next : page_start g b f + g.size ≡ page_start g b (f + 1) = omega arith in
+      let after : drop g.size rest ≡ drop (page_start g b (f + 1)) m = drop-drop g.size (page_start g b f) m ∙ ap (λ a. drop a m) next in
+      ap (λ k. cond (all_blank (take k rest)) None (Some (NotBlank (record { 0 = b })))) size
+      ∙ rw (take-add g.size (n * g.size) rest, list_all-append (λ x. x == 255) (take g.size rest) (take (n * g.size) (drop g.size rest)), after)
+      (both_tested (all_blank (take g.size rest)) _ (NotBlank (record { 0 = b })) _ (pages_tested n (f + 1)))
 
-  -- where it is good, the first fault is that of the pages
-  pub block_pages : true ≡ good_header g f k s → first_fault (map (page_fault g m b) (range_with_len f (g.pages - f))) ≡ block_fault g m b
-  unfolding block_fault
-  block_pages e =
-      ap (λ n. first_fault (map (page_fault g m b) (range_with_len n (g.pages - n)))) floor
-      ∙ after_none (header_fault g (header_at g m b) b) _ (header_tested true e)
+  module _ (f k s : ℕ) (header : HeaderOf (header_at g m b) f k s) where
+    header_tested : (t : Bool) → t ≡ good_header g f k s → cond t None (Some (BadHeader (record { 0 = b }))) ≡ header_fault g (header_at g m b) b
+    header_tested t e = rw (e, header.floor_is, header.erases_is, header.spare_is) refl
 
--- what a test of a page finds
-pub page_tested :
-    (g : Geometry) (m : List ℕ) (b p a : ℕ) (t : Bool) → a ≡ page_start g b p → t ≡ all_blank (take (a + g.size - a) (drop a m)) →
-    cond t None (Some (NotBlank (record { 0 = b }))) ≡ page_fault g m b p
-page_tested g m b p a t at test =
-    let n : a + g.size - a ≡ g.size = omega arith in
-    rw (test, n, at) refl
+    pub block_bad : false ≡ good_header g f k s → Some (BadHeader (record { 0 = b })) ≡ block_fault g m b
+    unfolding block_fault
+    block_bad e = first_some (header_fault g (header_at g m b) b) _ (BadHeader (record { 0 = b })) (header_tested false e)
+
+    -- where the header is good, the pages from the floor on decide
+    pub block_pages :
+        (t : Bool) (a z : ℕ) → true ≡ good_header g f k s → a ≡ page_start g b f → z ≡ page_start g b g.pages →
+        t ≡ all_blank (take (z - a) (drop a m)) → cond t None (Some (NotBlank (record { 0 = b }))) ≡ block_fault g m b
+    unfolding block_fault
+    block_pages t a z good start end test =
+        let size : z - a ≡ (g.pages - f) * g.size = omega (arith, mul-sub g.size g.pages f) in
+        rw (test, size, start)
+        (pages_tested (g.pages - f) f ∙ ap (λ n. first_fault (map (page_fault g m b) (range_with_len n (g.pages - n)))) header.floor_is
+        ∙ after_none (header_fault g (header_at g m b) b) _ (header_tested true good))

@@ -1,12 +1,13 @@
 -- What an image means: its card, where its parts lie, and what a write to one block leaves of it.
-use Rattle.std.proofs.Common.{◌≡◌, ℕ, ◌+◌, ◌<◌, ◌≤◌, ◌≢◌, ◌⊎◌, List, [], map, length, get_or, take, drop, sym, refl, ap, ◌∙◌, inl, inr, ⊎_elim, arith}
+use Rattle.std.proofs.Common.{◌≡◌, ℕ, ◌+◌, ◌<◌, ◌≤◌, ◌≢◌, ◌⊎◌, List, [], map, length, get_or, take, drop, ap, ◌∙◌, inl, inr, ⊎_elim, arith}
 use borrow.Rule.Slice.PartMut.{put_mid}
 use Rattle.std.specs.List.{range_with_len}
 use Rattle.std.proofs.lemmas.Bool.{cases_eq}
 use Rattle.flash.specs.declared.geometry.Geometry.{Geometry}
 use Rattle.flash.specs.Meaning.{Block, absent, block_at, block_count, page_at, geometry_of, with_block}
-use Rattle.flash.proofs.RefusalLaws.{CanRead, CanProgram, CanErase}
-use Rattle.chips.specs.Image.{header_length, floor_in, count_in, spare_in, pages_length, block_length, image_length, start_of, header_at, page_start, image_page, image_block, image_card}
+use Rattle.flash.proofs.RefusalLaws.{CanProgram, CanErase}
+use Rattle.chips.specs.Image.{header_length, floor_in, count_in, spare_in, block_length, image_length, start_of, header_at, page_start, image_page, image_block, image_card}
+use Rattle.chips.specs.Layout.{pages_length}
 use Rattle.chips.proofs.Cards.{same_block, laid_count, laid_geometry, laid_here, laid_absent, laid_with}
 use Rattle.chips.proofs.Counting.{counting_at, counting_same}
 use Rattle.chips.proofs.Rows.{rows_apart, rows_order, length_put, part_at, part_after, part_outside}
@@ -31,7 +32,7 @@ module _ (g : Geometry) (m : List ℕ) where
   pub image_in : (b : ℕ) → b < block_count (image_card g m) → b < g.blocks
   image_in b h = rw image_count at h
 
-  image_page_lem : (b p : ℕ) → b < g.blocks → p < g.pages → page_at (image_card g m) b p ≡ image_page g m b p
+  pub image_page_lem : (b p : ℕ) → b < g.blocks → p < g.pages → page_at (image_card g m) b p ≡ image_page g m b p
   image_page_lem b p h k =
       ap (λ (y : Block). get_or y.pages p []) (image_here b h) ∙ counting_at (image_page g m b) g.pages p [] k
 
@@ -48,24 +49,12 @@ module _ (g : Geometry) (m : List ℕ) (room : image_length g ≤ length m) (b :
   pub page_fits : (p n a : ℕ) → b < g.blocks → p < g.pages → n ≡ g.size → a ≡ page_start g b p → a + n ≤ length m
   page_fits p n a there h e at = omega (arith, block_end there, page_end g b p h)
 
-  pub read_fits : (p n a : ℕ) → CanRead (image_card g m) b p n → a ≡ page_start g b p → a + n ≤ length m
-  unfolding image_card
-  read_fits p n a can at = page_fits p n a (image_in g m b can.block) can.page can.bytes at
-
   pub program_fits : (p n a : ℕ) → CanProgram (image_card g m) b p n → a ≡ page_start g b p → a + n ≤ length m
   unfolding image_card
   program_fits p n a can at = page_fits p n a (image_in g m b can.block) can.page can.bytes at
 
-  pub erase_fits : (a : ℕ) → CanErase (image_card g m) b → a ≡ page_start g b 0 → a + pages_length g ≤ length m
-  erase_fits a can at = omega (arith, block_end (image_in g m b can.block))
-
--- a page as it lies in memory is the card's
-pub image_got :
-    (g : Geometry) (m : List ℕ) (b p n a : ℕ) (x : List ℕ) →
-    CanRead (image_card g m) b p n → a ≡ page_start g b p → x ≡ take n (drop a m) → x ≡ page_at (image_card g m) b p
-unfolding image_card
-image_got g m b p n a x can at e =
-    e ∙ rw (at, can.bytes) refl ∙ sym (image_page_lem g m b p (image_in g m b can.block) can.page)
+  pub erase_fits : (a l : ℕ) → CanErase (image_card g m) b → a ≡ page_start g b 0 → l ≡ pages_length g → a + l ≤ length m
+  erase_fits a l can at all = omega (arith, block_end (image_in g m b can.block))
 
 -- two writes to one block: to l bytes of its pages from q on, and then to its header
 pub record Rewrite (g : Geometry) (m m' : List ℕ) (b q l : ℕ) (x h : List ℕ) : Type 0 where

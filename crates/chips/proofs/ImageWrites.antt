@@ -7,12 +7,13 @@ use Rattle.flash.specs.declared.geometry.Geometry.{Geometry}
 use Rattle.flash.specs.Meaning.{Card, Block, erase_count_at, with_block, programmed, erased, Sound}
 use Rattle.flash.proofs.RefusalLaws.{CanProgram, CanErase}
 use Rattle.flash.proofs.SoundLaws.{programmed_sound, erased_sound}
-use Rattle.chips.specs.Image.{header_length, header_bytes, floor_in, count_in, spare_in, pages_length, image_length, start_of, page_start, image_page, image_card, ImageOf, blank_pages}
+use Rattle.chips.specs.Image.{header_length, header_bytes, floor_in, count_in, spare_in, image_length, start_of, page_start, image_page, image_card, ImageOf, blank_pages}
+use Rattle.chips.specs.Layout.{pages_length}
 use Rattle.chips.proofs.Cards.{same_block}
 use Rattle.chips.proofs.Counting.{counting_replicate, counting_set}
 use Rattle.chips.proofs.HeaderLaws.{header_floor, header_count, header_spare}
 use Rattle.chips.proofs.ImageFaults.{Whole, whole_fault}
-use Rattle.chips.proofs.ImageLaws.{image_count, image_here, image_in, block_end, page_end, page_fits, program_fits, erase_fits, Rewrite, rewrite_length, rewrite_card, rewrite_spare}
+use Rattle.chips.proofs.ImageLaws.{image_count, image_here, image_in, block_end, page_end, page_fits, erase_fits, Rewrite, rewrite_length, rewrite_card, rewrite_spare}
 use Rattle.chips.proofs.Rows.{rows_apart, rows_order, length_put, part_at, part_outside, part_filled}
 
 -- the image stays without fault where the card stays sound and the header's spare bits are zero
@@ -44,7 +45,7 @@ module _ (g : Geometry) (m : List ℕ) (whole : Whole g m) (b : ℕ) where
   count_small : b < g.blocks → erase_count_at (image_card g m) b + 1 < 2 ^ 20
   count_small h = omega (arith, (whole.sound.each b (rw (image_count g m) h)).erases_high, whole.sound.endurance_high)
 
-  pub program_small : (p n k : ℕ) → CanProgram (image_card g m) b p n → k ≡ erase_count_at (image_card g m) b → (p + 1 < 2 ^ 7) × (k < 2 ^ 20)
+  program_small : (p n k : ℕ) → CanProgram (image_card g m) b p n → k ≡ erase_count_at (image_card g m) b → (p + 1 < 2 ^ 7) × (k < 2 ^ 20)
   program_small p n k can e =
       (omega (arith, can.page, whole.sound.pages_high), omega (arith, count_small (image_in g m b can.block)))
 
@@ -55,10 +56,6 @@ module _ (g : Geometry) (m : List ℕ) (whole : Whole g m) (b : ℕ) where
 module _ (g : Geometry) (m m₁ : List ℕ) (b p a o k : ℕ) (x h : List ℕ) (can : CanProgram (image_card g m) b p (length x))
     (at : a ≡ page_start g b p) (start : o ≡ start_of g b) (count : k ≡ erase_count_at (image_card g m) b) (head : h ≡ header_bytes (p + 1) k)
     (first : m₁ ≡ put_mid a (length x) m x) where
-  pub program_header_fits : image_length g ≤ length m → o + length h ≤ length m₁
-  program_header_fits room =
-      header_fits g m m₁ b a (length x) o (p + 1) k x h room (image_in g m b can.block) (program_fits g m room b p (length x) a can at) refl start head first
-
   module _ (m₂ : List ℕ) (second : m₂ ≡ put_mid o (length h) m₁ h) (whole : Whole g m) where
     program_rewrite : Rewrite g m m₂ b (page_start g b p) g.size x h
     unfolding image_card
@@ -109,12 +106,15 @@ module _ (g : Geometry) (m m₁ : List ℕ) (b p a o k : ℕ) (x h : List ℕ) (
         program_card (programmed_sound (image_card g m) b p x can whole.sound)
 
 -- an erase clears the pages, and then writes the header with a count that is one higher
-module _ (g : Geometry) (m m₁ : List ℕ) (b a o k : ℕ) (h : List ℕ) (can : CanErase (image_card g m) b)
-    (at : a ≡ page_start g b 0) (start : o ≡ start_of g b) (count : k ≡ erase_count_at (image_card g m) b) (head : h ≡ header_bytes 0 (k + 1))
-    (first : m₁ ≡ put_mid a (pages_length g) m (blank_pages g)) where
+module _ (g : Geometry) (m m₁ : List ℕ) (b a l o k : ℕ) (h : List ℕ) (can : CanErase (image_card g m) b)
+    (at : a ≡ page_start g b 0) (all : l ≡ pages_length g) (start : o ≡ start_of g b) (count : k ≡ erase_count_at (image_card g m) b) (head : h ≡ header_bytes 0 (k + 1))
+    (fill : m₁ ≡ put_mid a l m (replicate l 255)) where
+  first : m₁ ≡ put_mid a (pages_length g) m (blank_pages g)
+  first = fill ∙ ap (λ n. put_mid a n m (replicate n 255)) all
+
   pub erase_header_fits : image_length g ≤ length m → o + length h ≤ length m₁
   erase_header_fits room =
-      header_fits g m m₁ b a (pages_length g) o 0 (k + 1) (blank_pages g) h room (image_in g m b can.block) (erase_fits g m room b a can at) (length-replicate (pages_length g) 255) start head first
+      header_fits g m m₁ b a (pages_length g) o 0 (k + 1) (blank_pages g) h room (image_in g m b can.block) (erase_fits g m room b a (pages_length g) can at refl) (length-replicate (pages_length g) 255) start head first
 
   module _ (m₂ : List ℕ) (second : m₂ ≡ put_mid o (length h) m₁ h) (whole : Whole g m) where
     erase_rewrite : Rewrite g m m₂ b (page_start g b 0) (pages_length g) (blank_pages g) h
@@ -136,7 +136,7 @@ module _ (g : Geometry) (m m₁ : List ℕ) (b a o k : ℕ) (h : List ℕ) (can 
     erase_pages =
         counting_replicate (image_page g (put_mid (page_start g b 0) (pages_length g) m (blank_pages g)) b) g.pages (replicate g.size 255) (λ r i.
         part_filled m (page_start g b 0) (pages_length g) (page_start g b r) g.size 255
-        (erase_fits g m whole.room b (page_start g b 0) can refl) (omega arith) (omega (arith, rows_apart g.size r g.pages i)))
+        (erase_fits g m whole.room b (page_start g b 0) (pages_length g) can refl refl) (omega arith) (omega (arith, rows_apart g.size r g.pages i)))
 
     erase_card : image_card g m₂ ≡ erased (image_card g m) b
     unfolding image_card erased

@@ -1,8 +1,8 @@
 -- Rows of a memory, and what a write to a part of it leaves of them.
 use Rattle.std.proofs.Common.{◌≡◌, ℕ, ◌+◌, ◌-◌, ◌*◌, ◌<◌, ◌≤◌, ◌≢◌, ◌⊎◌, List, ◌++◌, length, take, drop, replicate, sym, refl, ap, ◌∙◌, inl, inr, ⊎_elim, add-mul, one-mul, arith}
 use borrow.Rule.Slice.PartMut.{put_mid}
-use Rattle.std.proofs.lemmas.List.{length-append, length-take, drop-take, drop-drop, drop_at, length-take-le, length-drop, length-replicate, take-append-le, drop-append-le, take-replicate, drop-replicate, append_assoc, take_at}
-use Rattle.std.proofs.lemmas.Slice.{take-put_mid_below, take-put_mid, drop-put_mid}
+use Rattle.std.proofs.lemmas.List.{length-append, drop-take, drop-drop, drop_at, length-take-le, length-drop, length-replicate, take-append-le, drop-append-le, take-replicate, drop-replicate, append_assoc, take_at}
+use Rattle.std.proofs.lemmas.Slice.{overwrites, take-put_mid_below, between-put_mid}
 use Rattle.std.proofs.lemmas.Nat.{mul-le}
 use Rattle.std.proofs.lemmas.Bool.{cases_order}
 
@@ -21,26 +21,25 @@ rows_order s j k ne =
     (cases_order j k)
 
 pub length_put : (m ys : List ℕ) (a l : ℕ) → a + l ≤ length m → length ys ≡ l → length (put_mid a l m ys) ≡ length m
-length_put m ys a l h e = simp (length-append, length-take, length-drop) (omega arith)
+length_put m ys a l h e = grind (arith, overwrites)
 
 -- a memory in which l bytes from a on were written
 module _ (m ys : List ℕ) (a l : ℕ) (fits : a + l ≤ length m) (len : length ys ≡ l) where
-  pub part_before : (o s : ℕ) → o + s ≤ a → take s (drop o (put_mid a l m ys)) ≡ take s (drop o m)
+  part_before : (o s : ℕ) → o + s ≤ a → take s (drop o (put_mid a l m ys)) ≡ take s (drop o m)
   part_before o s h =
       sym (drop-take o s (put_mid a l m ys))
       ∙ ap (drop o) (take-put_mid_below a l m ys (o + s) h (omega arith))
       ∙ drop-take o s m
 
   pub part_after : (o s : ℕ) → a + l ≤ o → take s (drop o (put_mid a l m ys)) ≡ take s (drop o m)
-  part_after o s h = ap (take s) (drop-put_mid a l m ys o h (omega arith) len)
+  part_after o s h = grind (arith, overwrites)
 
   pub part_at : take l (drop a (put_mid a l m ys)) ≡ ys
   part_at =
-      sym (drop-take a l (put_mid a l m ys))
-      ∙ ap (drop a) (take-put_mid a l m ys (a + l) (omega arith) (omega arith))
-      ∙ drop_at (take a m) ys a (length-take-le a m (omega arith))
+      let n : a + l - a ≡ l = omega arith in
+      ap (λ k. take k (drop a (put_mid a l m ys))) (sym n) ∙ between-put_mid a l m ys (a + l) (omega arith) (len ∙ sym n)
 
-  pub part_within : (o s : ℕ) → a ≤ o → o + s ≤ a + l → take s (drop o (put_mid a l m ys)) ≡ take s (drop (o - a) ys)
+  part_within : (o s : ℕ) → a ≤ o → o + s ≤ a + l → take s (drop o (put_mid a l m ys)) ≡ take s (drop (o - a) ys)
   part_within o s h k =
       let e : a + (o - a) ≡ o = omega arith in
       let d : drop o (put_mid a l m ys) ≡ drop (o - a) (drop a (put_mid a l m ys)) = sym (drop-drop (o - a) a (put_mid a l m ys) ∙ ap (λ j. drop j (put_mid a l m ys)) e) in

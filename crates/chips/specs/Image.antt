@@ -1,11 +1,11 @@
 -- What an image means: each block is a header and then its pages, all in one memory.
-use Rattle.std.specs.Prelude.{◌≡◌, ℕ, zero, suc, ◌+◌, ◌-◌, ◌*◌, ◌/◌, ◌%◌, ◌^◌, ◌≤◌, Bool, true, cond, ◌&&◌, List, [], ◌∷◌, ◌++◌, map, length, take, drop, replicate, Some, None, Option, ◌==◌, nat_le, slice_index}
-use Rattle.std.specs.List.{range_with_len}
+use Rattle.std.specs.Prelude.{◌≡◌, ℕ, zero, suc, ◌+◌, ◌-◌, ◌*◌, ◌/◌, ◌%◌, ◌^◌, ◌≤◌, Bool, cond, ◌&&◌, List, [], ◌∷◌, ◌++◌, map, length, take, drop, replicate, Some, None, Option, ◌==◌, nat_le, slice_index}
+use Rattle.std.specs.List.{range_with_len, list_all}
 use Rattle.flash.specs.declared.geometry.Geometry.{Geometry}
 use Rattle.flash.specs.declared.making.MakingFault.{MakingFault}
-use Rattle.flash.specs.declared.making.MakingFault.TheVariants.{OutOfLimits, MemoryShort, BadHeader, NotBlank}
-use Rattle.flash.specs.Limits.{within_limits}
+use Rattle.flash.specs.declared.making.MakingFault.TheVariants.{BadHeader, NotBlank}
 use Rattle.flash.specs.Meaning.{Block, Card, no_card}
+use Rattle.chips.specs.Layout.{pages_length, span, all_spans, span_start, page_place, page_in, fitting_fault}
 
 -- the bytes of a header
 abbrev pub header_length : ℕ
@@ -51,25 +51,27 @@ count_in h = count_of (word h)
 abbrev pub spare_in : List ℕ → ℕ
 spare_in h = spare_of (word h)
 
--- the bytes of a block's pages
-abbrev pub pages_length : Geometry → ℕ
-pages_length g = g.pages * g.size
+-- the parts of a header as it lies in memory
+pub record HeaderOf (h : List ℕ) (floor erases spare : ℕ) : Type 0 where
+  pub floor_is : floor ≡ floor_in h
+  pub erases_is : erases ≡ count_in h
+  pub spare_is : spare ≡ spare_in h
 
 -- the bytes of a block: its header and its pages
 abbrev pub block_length : Geometry → ℕ
-block_length g = header_length + pages_length g
+block_length = span header_length
 
 -- the bytes of all blocks
 abbrev pub image_length : Geometry → ℕ
-image_length g = g.blocks * block_length g
-
--- measures that keep each place of an image small
-abbrev pub Small : Geometry → Type 0
-Small g = (g.blocks ≤ 256) × (g.pages ≤ 64) × (g.size ≤ 4096)
+image_length = all_spans header_length
 
 -- where a block begins
 abbrev pub start_of : Geometry → ℕ → ℕ
-start_of g b = b * block_length g
+start_of = span_start header_length
+
+-- a memory that reaches to the end of a block
+abbrev pub HasBlock : Geometry → List ℕ → ℕ → Type 0
+HasBlock g m b = start_of g b + block_length g ≤ length m
 
 -- the header of a block
 abbrev pub header_at : Geometry → List ℕ → ℕ → List ℕ
@@ -77,11 +79,11 @@ header_at g m b = take header_length (drop (start_of g b) m)
 
 -- where a page of a block begins
 abbrev pub page_start : Geometry → ℕ → ℕ → ℕ
-page_start g b p = start_of g b + header_length + p * g.size
+page_start = page_place header_length
 
 -- the bytes of a page
 abbrev pub image_page : Geometry → List ℕ → ℕ → ℕ → List ℕ
-image_page g m b p = take g.size (drop (page_start g b p) m)
+image_page = page_in header_length
 
 -- a block, as its header and its pages have it
 abbrev pub image_block : Geometry → List ℕ → ℕ → Block
@@ -95,8 +97,7 @@ image_card g m =
 
 -- whether all bytes are 255
 abbrev pub all_blank : List ℕ → Bool
-all_blank [] = true
-all_blank (x ∷ xs) = x == 255 && all_blank xs
+all_blank = list_all (λ x. x == 255)
 
 -- the first fault that a list of tests finds
 abbrev pub first_fault : List (Option MakingFault) → Option MakingFault
@@ -106,8 +107,7 @@ first_fault (Some fault ∷ tests) = Some fault
 
 -- tests that the measures are within their limits, and that so many bytes hold all blocks
 abbrev pub room_fault : Geometry → ℕ → Option MakingFault
-room_fault g available =
-    cond (within_limits g) (cond (nat_le (image_length g) available) None (Some MemoryShort)) (Some OutOfLimits)
+room_fault = fitting_fault header_length
 
 -- a floor and an erase count in range, and zero bits after them
 abbrev pub good_header : Geometry → ℕ → ℕ → ℕ → Bool

@@ -1,8 +1,9 @@
 ghost use Rattle.std.specs.Prelude.{◌≡◌, ◌+◌, ◌≤◌, length, take, drop, replicate};
 ghost use borrow.Rule.Slice.PartMut.{put_mid};
 
-// The memory that a caller lends to a chip.
-// A wrapper, since a part of a slice cannot be lent out of a struct that has an invariant.
+// The memory that a caller lends to a chip, with the calls that both chips make on it.
+// A wrapper, since a write straight through a slice of the chip's own would owe the chip's invariant at once,
+// and a chip's program or erase holds it again only after its second write.
 #[derive(Drop)]
 pub struct Memory<'a> {
     pub(crate) bytes: &'a mut [u8],
@@ -17,12 +18,12 @@ impl<'a> Memory<'a> {
         self.bytes[at..at + bytes.len()].copy_from_slice(bytes);
     }
 
-    // Writes 255 to n bytes from a place on.
-    pub(crate) fn clear(&mut self, at: usize, n: usize)
+    // Writes one byte to n places from one on.
+    pub(crate) fn fill(&mut self, at: usize, n: usize, byte: u8)
         requires { at + n ≤ length self.old.bytes.now }
-        ensures { self.new.bytes.now ≡ put_mid at n self.old.bytes.now (replicate n 255) }
+        ensures { self.new.bytes.now ≡ put_mid at n self.old.bytes.now (replicate n byte) }
     {
-        self.bytes[at..at + n].fill(255);
+        self.bytes[at..at + n].fill(byte);
     }
 
     // Fills a buffer with what lies from a place on.

@@ -1,70 +1,67 @@
 ghost use Rattle.std.specs.Prelude.{◌≡◌, ◌≤◌, length};
-ghost use Rattle.flash.specs.Meaning.{Sound};
+ghost use Rattle.std.specs.Result.{result_err};
+ghost use Rattle.flash.specs.Meaning.{Sound, floor_at, erase_count_at};
 ghost use Rattle.chips.specs.Plain.{plain_length, plain_card, plain_fault, made_card, made_memory};
 
+use crate::layout::Layout;
 use crate::memory::Memory;
 use crate::table::Entry;
 use flash::block::PhysicalBlock;
-use flash::checks::{check_erase, check_program, check_read};
 use flash::device::Flash;
 use flash::geometry::Geometry;
 use flash::making::MakingFault;
 use flash::refusal::Refusal;
 
+// The pages of a plain chip lie one after the other, with nothing between them.
+type PlainLayout = Layout<0>;
+
 // A chip that keeps its pages in the caller's memory, one after the other, and the rest in a table.
 #[derive(Drop)]
 pub struct PlainChip<'a> {
     memory: Memory<'a>,
+    // an entry for each of the most blocks that there can be, since a card has no heap
     table: [Entry; 256],
     geometry: Geometry,
+    ghost blocks_high: { geometry.blocks ≤ 256 },
+    ghost pages_high: { geometry.pages ≤ 64 },
+    ghost size_high: { geometry.size ≤ 4096 },
     ghost entries: { length table ≡ 256 },
-    ghost small: { (geometry.blocks ≤ 256) × (geometry.pages ≤ 64) × (geometry.size ≤ 4096) },
     ghost room: { plain_length geometry ≤ length memory.bytes.now },
     ghost whole: { ∥ Sound (plain_card geometry memory.bytes.now table) ∥₁ },
 }
 
 impl<'a> PlainChip<'a> {
     // What keeps a chip of these measures from being made in this memory, if anything does.
-    pub fn fault(memory: &[u8], geometry: Geometry) -> Option<MakingFault>
-        ensures { result ≡ plain_fault geometry (length memory.now) }
+    pub fn fault(memory: &[u8], geometry: Geometry) -> Result<(), MakingFault>
+        ensures { result_err result ≡ plain_fault geometry (length memory.now) }
     {
-        if !geometry.within_limits() {
-            return Some(MakingFault::OutOfLimits);
-        }
-        if geometry.blocks as usize * geometry.pages * geometry.size > memory.len() {
-            return Some(MakingFault::MemoryShort);
-        }
-        None
+        PlainLayout::fitting(geometry, memory.len())?;
+        Ok(())
     }
 
     // A blank chip in the caller's memory; where there is a fault, the flash without blocks.
     pub fn new(memory: &'a mut [u8], geometry: Geometry) -> PlainChip<'a>
-        ensures shows { plain_card result.geometry result.memory.bytes.now result.table ≡ made_card (plain_fault geometry (length memory.old)) geometry }
-        ensures holds { result.memory.bytes.now ≡ made_memory (plain_fault geometry (length memory.old)) geometry memory.old }
+        ensures shows { plain_card result.geometry result.memory.bytes.now result.table
+            ≡ made_card (plain_fault geometry (length memory.old)) geometry }
+        ensures holds { result.memory.bytes.now
+            ≡ made_memory (plain_fault geometry (length memory.old)) geometry memory.old }
     {
-        let table = [Entry {
-            floor: 0,
-            erases: 0,
-        }; 256];
-        if let Some(_) = PlainChip::fault(memory, geometry) {
-            let none = Geometry {
-                blocks: 0,
-                pages: 2,
-                size: 4,
-                endurance: 1,
-            };
-            return PlainChip {
-                memory: Memory { bytes: memory },
-                table,
-                geometry: none,
-            };
-        }
+        let available = memory.len();
         let mut memory = Memory { bytes: memory };
-        memory.clear(0, geometry.blocks as usize * geometry.pages * geometry.size);
+        let table = [Entry::default(); 256];
+        let Ok(layout) = PlainLayout::fitting(geometry, available) else {
+            return PlainChip {
+                memory,
+                table,
+                geometry: Geometry::WITHOUT_BLOCKS,
+            };
+        };
+        let length = layout.length();
+        memory.fill(0, length, 255);
         PlainChip {
             memory,
             table,
-            geometry,
+            geometry: layout.geometry,
         }
     }
 
@@ -79,6 +76,20 @@ impl<'a> PlainChip<'a> {
         } = self;
         memory.into_bytes()
     }
+
+    // What the table has of a block; where there is no such block, the entry of one that was never used.
+    fn entry(&self, block: PhysicalBlock) -> Entry
+        ensures floor { result.floor
+            ≡ floor_at (plain_card self.now.geometry self.now.memory.bytes.now self.now.table) block.0 }
+        ensures erases { result.erases
+            ≡ erase_count_at (plain_card self.now.geometry self.now.memory.bytes.now self.now.table) block.0 }
+    {
+        if block.0 < self.geometry.blocks {
+            self.table[block.0 as usize]
+        } else {
+            Entry::default()
+        }
+    }
 }
 
 impl<'a> Flash for PlainChip<'a> {
@@ -89,49 +100,44 @@ impl<'a> Flash for PlainChip<'a> {
     }
 
     fn floor(&self, block: PhysicalBlock) -> usize {
-        if block.0 < self.geometry.blocks {
-            self.table[block.0 as usize].floor
-        } else {
-            0
-        }
+        self.entry(block).floor
     }
 
     fn erase_count(&self, block: PhysicalBlock) -> u32 {
-        if block.0 < self.geometry.blocks {
-            self.table[block.0 as usize].erases
-        } else {
-            0
-        }
+        self.entry(block).erases
     }
 
     fn program(&mut self, block: PhysicalBlock, page: usize, bytes: &[u8]) -> Result<(), Refusal> {
-        check_program(self.geometry, self.floor(block), block, page, bytes.len())?;
-        let number = block.0 as usize;
-        let old = self.table[number];
-        let at = (number * self.geometry.pages + page) * self.geometry.size;
-        self.memory.put(at, bytes);
-        self.table[number] = Entry {
+        let layout = PlainLayout {
+            geometry: self.geometry,
+        };
+        let old = self.entry(block);
+        self.geometry
+            .check_program(old.floor, block, page, bytes.len())?;
+        self.memory.put(layout.page_start(block, page), bytes);
+        self.table[block.0 as usize] = Entry {
             floor: page + 1,
-            erases: old.erases,
+            ..old
         };
         Ok(())
     }
 
     fn read(&self, block: PhysicalBlock, page: usize, into: &mut [u8]) -> Result<(), Refusal> {
-        check_read(self.geometry, block, page, into.len())?;
-        let number = block.0 as usize;
-        let from = (number * self.geometry.pages + page) * self.geometry.size;
-        self.memory.get(from, into);
-        Ok(())
+        let layout = PlainLayout {
+            geometry: self.geometry,
+        };
+        layout.read_page(&self.memory, block, page, into)
     }
 
     fn erase(&mut self, block: PhysicalBlock) -> Result<(), Refusal> {
-        check_erase(self.geometry, self.erase_count(block), block)?;
-        let number = block.0 as usize;
-        let old = self.table[number];
-        let length = self.geometry.pages * self.geometry.size;
-        self.memory.clear(number * length, length);
-        self.table[number] = Entry {
+        let layout = PlainLayout {
+            geometry: self.geometry,
+        };
+        let old = self.entry(block);
+        self.geometry.check_erase(old.erases, block)?;
+        let pages = layout.block_start(block);
+        self.memory.fill(pages, layout.pages_length(), 255);
+        self.table[block.0 as usize] = Entry {
             floor: 0,
             erases: old.erases + 1,
         };

@@ -1,5 +1,5 @@
 // What a plain chip keeps of a block besides its pages.
-#[derive(Clone, Copy)]
+#[derive(Clone, Copy, Default)]
 pub struct Entry {
     // the lowest page that may still be programmed
     pub floor: usize,

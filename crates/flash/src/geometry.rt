@@ -15,6 +15,14 @@ pub struct Geometry {
 }
 
 impl Geometry {
+    // The measures of the flash without blocks.
+    pub const WITHOUT_BLOCKS: Geometry = Geometry {
+        blocks: 0,
+        pages: 2,
+        size: 4,
+        endurance: 1,
+    };
+
     // Whether each measure is one that a flash may have.
     pub fn within_limits(self) -> bool
         ensures { result ≡ within_limits self }

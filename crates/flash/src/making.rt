@@ -16,12 +16,12 @@ pub enum MakingFault {
     NotBlank(PhysicalBlock),
 }
 
-impl MakingFault {
-    // The number that stands for the fault outside the program.
-    pub fn number(self) -> u8
-        ensures { result ≡ fault_number self }
-    {
-        match self {
+// The number that stands for the fault outside the program.
+impl From<MakingFault> for u8 {
+    ghost from_gives = { λ fault n. n ≡ fault_number fault };
+
+    fn from(fault: MakingFault) -> u8 {
+        match fault {
             MakingFault::OutOfLimits => 22,
             MakingFault::MemoryShort => 23,
             MakingFault::BadHeader(_) => 24,

@@ -11,11 +11,11 @@ pub enum Refusal {
     WornOut = 21,
 }
 
-impl Refusal {
-    // The number that stands for the refusal outside the program.
-    pub fn number(self) -> u8
-        ensures { result ≡ number_of self }
-    {
-        self as u8
+// The number that stands for the refusal outside the program.
+impl From<Refusal> for u8 {
+    ghost from_gives = { λ refusal n. n ≡ number_of refusal };
+
+    fn from(refusal: Refusal) -> u8 {
+        refusal as u8
     }
 }

@@ -22,12 +22,9 @@ fn blank_but(place: usize, byte: u8) -> [u8; 24] {
     memory
 }
 
-// The number that the check tells of an image; 0 where it can be taken up.
-fn number(memory: &[u8]) -> u8 {
-    match ImageChip::fault(memory, SMALL) {
-        Some(fault) => fault.number(),
-        None => 0,
-    }
+// What the check tells of an image, with a fault as its number.
+fn tested(memory: &[u8]) -> Result<(), u8> {
+    ImageChip::fault(memory, SMALL).map_err(u8::from)
 }
 
 // Whether the header of a blank block with just this bit set can stand.
@@ -43,9 +40,9 @@ fn bit_stands(bit: u32) -> bool {
 #[test]
 fn length_of_an_image(rt: HostRuntime) {
     let memory = blank_but(0, 0);
-    assert_eq!(rt; number(&memory[0..24]), 0);
-    assert_eq!(rt; number(&memory[0..23]), 23);
-    assert_eq!(rt; number(&memory[0..0]), 23);
+    assert_eq!(rt; tested(&memory[0..24]), Ok(()));
+    assert_eq!(rt; tested(&memory[0..23]), Err(23));
+    assert_eq!(rt; tested(&memory[0..0]), Err(23));
 }
 
 // Each bit of both headers set in turn: floors up to 2, counts up to 1,000, and no low bits.
@@ -54,9 +51,9 @@ fn bits_of_a_header(rt: HostRuntime) {
     for bit in 0..32u32 {
         let byte = 1u8 << (bit % 8);
         let place = 3 - bit as usize / 8;
-        let expected = if bit_stands(bit) { 0 } else { 24 };
-        assert_eq!(rt; number(&blank_but(place, byte)), expected);
-        assert_eq!(rt; number(&blank_but(12 + place, byte)), expected);
+        let expected = if bit_stands(bit) { Ok(()) } else { Err(24) };
+        assert_eq!(rt; tested(&blank_but(place, byte)), expected);
+        assert_eq!(rt; tested(&blank_but(12 + place, byte)), expected);
     }
 }
 
@@ -68,11 +65,11 @@ fn bytes_above_the_floor(rt: HostRuntime) {
         let second = blank_but(16 + place, 0);
         assert_eq!(rt;
             ImageChip::fault(&first, SMALL),
-            Some(MakingFault::NotBlank(PhysicalBlock(0)))
+            Err(MakingFault::NotBlank(PhysicalBlock(0)))
         );
         assert_eq!(rt;
             ImageChip::fault(&second, SMALL),
-            Some(MakingFault::NotBlank(PhysicalBlock(1)))
+            Err(MakingFault::NotBlank(PhysicalBlock(1)))
         );
     }
 }
@@ -85,17 +82,17 @@ fn first_fault_is_told(rt: HostRuntime) {
     memory[15] = 1;
     assert_eq!(rt;
         ImageChip::fault(&memory, SMALL),
-        Some(MakingFault::BadHeader(PhysicalBlock(0)))
+        Err(MakingFault::BadHeader(PhysicalBlock(0)))
     );
     memory[3] = 0;
     assert_eq!(rt;
         ImageChip::fault(&memory, SMALL),
-        Some(MakingFault::NotBlank(PhysicalBlock(0)))
+        Err(MakingFault::NotBlank(PhysicalBlock(0)))
     );
     memory[4] = 255;
     assert_eq!(rt;
         ImageChip::fault(&memory, SMALL),
-        Some(MakingFault::BadHeader(PhysicalBlock(1)))
+        Err(MakingFault::BadHeader(PhysicalBlock(1)))
     );
 }
 

@@ -25,14 +25,6 @@ fn holds<F: Flash>(rt: &impl Abort, flash: &F, block: PhysicalBlock, bytes: &[u8
 }
 
 // Block 5 of a pair is block 2 of the right one, and block 4 is block 2 of the left one.
-fn pair_of<L: Flash + Drop, R: Flash + Drop>(rt: &impl Abort, left: L, right: R) {
-    assert_eq!(rt; Pair::fault(&left, &right), None);
-    let pair = Pair::new(left, right);
-    assert_eq!(rt; pair.geometry(), Geometry { blocks: 6, ..THREE });
-    holds(rt, &pair, PhysicalBlock(4), b"left");
-    holds(rt, &pair, PhysicalBlock(5), b"rite");
-}
-
 #[test]
 fn blocks_of_a_pair(rt: HostRuntime) {
     let mut a = [0u8; 24];
@@ -41,12 +33,16 @@ fn blocks_of_a_pair(rt: HostRuntime) {
     let mut right = PlainChip::new(&mut b, THREE);
     assert_eq!(rt; left.program(PhysicalBlock(2), 0, b"left"), Ok(()));
     assert_eq!(rt; right.program(PhysicalBlock(2), 0, b"rite"), Ok(()));
-    pair_of(&rt, left, right);
+    assert_eq!(rt; Pair::fault(&left, &right), Ok(()));
+    let pair = Pair::new(left, right);
+    assert_eq!(rt; pair.geometry(), Geometry { blocks: 6, ..THREE });
+    holds(&rt, &pair, PhysicalBlock(4), b"left");
+    holds(&rt, &pair, PhysicalBlock(5), b"rite");
 }
 
 // Two flashes that differ, or that have no blocks, make the flash without blocks.
 fn no_pair<L: Flash + Drop, R: Flash + Drop>(rt: &impl Abort, left: L, right: R) {
-    assert_eq!(rt; Pair::fault(&left, &right), Some(MakingFault::OutOfLimits));
+    assert_eq!(rt; Pair::fault(&left, &right), Err(MakingFault::OutOfLimits));
     let mut pair = Pair::new(left, right);
     assert_eq!(rt;
         pair.geometry(),
@@ -77,7 +73,11 @@ fn flashes_that_do_not_fit(rt: HostRuntime) {
 }
 
 // Block 2 of five with 1 and 3 bad is block 4; numbers that come again or do not exist change nothing.
-fn good_of<F: Flash + Drop>(rt: &impl Abort, flash: F) {
+#[test]
+fn blocks_that_are_good(rt: HostRuntime) {
+    let mut memory = [0u8; 40];
+    let mut chip = PlainChip::new(&mut memory, FIVE);
+    assert_eq!(rt; chip.program(PhysicalBlock(4), 0, b"four"), Ok(()));
     let bad = [
         PhysicalBlock(1),
         PhysicalBlock(3),
@@ -85,30 +85,19 @@ fn good_of<F: Flash + Drop>(rt: &impl Abort, flash: F) {
         PhysicalBlock(5),
         PhysicalBlock(65535),
     ];
-    let good = GoodBlocks::new(flash, &bad);
+    let good = GoodBlocks::new(chip, &bad);
     assert_eq!(rt; good.geometry(), THREE);
-    holds(rt, &good, PhysicalBlock(2), b"four");
-}
-
-#[test]
-fn blocks_that_are_good(rt: HostRuntime) {
-    let mut memory = [0u8; 40];
-    let mut chip = PlainChip::new(&mut memory, FIVE);
-    assert_eq!(rt; chip.program(PhysicalBlock(4), 0, b"four"), Ok(()));
-    good_of(&rt, chip);
+    holds(&rt, &good, PhysicalBlock(2), b"four");
 }
 
 // With all blocks bad there is none, and the other measures stay.
-fn none_good<F: Flash + Drop>(rt: &impl Abort, flash: F) {
-    let bad = [PhysicalBlock(2), PhysicalBlock(1), PhysicalBlock(0)];
-    assert_eq!(rt;
-        GoodBlocks::new(flash, &bad).geometry(),
-        Geometry { blocks: 0, ..THREE }
-    );
-}
-
 #[test]
 fn all_blocks_bad(rt: HostRuntime) {
     let mut memory = [0u8; 24];
-    none_good(&rt, PlainChip::new(&mut memory, THREE));
+    let chip = PlainChip::new(&mut memory, THREE);
+    let bad = [PhysicalBlock(2), PhysicalBlock(1), PhysicalBlock(0)];
+    assert_eq!(rt;
+        GoodBlocks::new(chip, &bad).geometry(),
+        Geometry { blocks: 0, ..THREE }
+    );
 }

@@ -1,10 +1,13 @@
 -- What holds of every flash: calls that change one block, calls on a block that does not exist, the measures and the soundness of a card.
-use Rattle.std.proofs.Common.{◌≡◌, ℕ, ◌+◌, ◌<◌, ◌≤◌, List, set, Some, sym, refl, ap, ◌∙◌, arith}
+use Rattle.std.proofs.Common.{◌≡◌, ℕ, ◌+◌, ◌<◌, ◌≤◌, List, set, Some, Ok, Err, Option, Result, IsErrAnd, sym, refl, ap, ◌∙◌, arith}
 use Rattle.std.proofs.lemmas.List.{get_or_past}
 use Rattle.std.proofs.lemmas.Bool.Decides.{nat_tests}
 use Rattle.flash.specs.declared.geometry.Geometry.{Geometry}
-use Rattle.flash.specs.Meaning.{Card, Shape, Block, absent, blank_block, block_at, block_count, floor_at, erase_count_at, geometry_of, with_block, programmed, erased, Sound, SoundBlock}
-use Rattle.flash.specs.Refusals.{read_refusal, program_refusal, erase_refusal}
+use Rattle.flash.specs.Meaning.{Card, Shape, Block, absent, blank_block, block_at, block_count, geometry_of, with_block, programmed, erased, Sound, SoundBlock}
+use Rattle.flash.specs.declared.refusal.Refusal.{Refusal}
+use Rattle.flash.specs.declared.refusal.Refusal.TheVariants.{NoSuchBlock}
+use Rattle.flash.specs.Numbers.{number_of}
+use Rattle.flash.specs.Refusals.{Outcome, read_refusal, program_refusal, erase_refusal}
 
 -- a call that changes one block, by what stands there alone
 pub record Local (call : Card → ℕ → Card) : Type 0 where
@@ -22,14 +25,8 @@ erase_local = record { change = λ s y. blank_block s (y.erases + 1); is = λ c 
 
 -- calls on a block that does not exist
 module _ (c : Card) (b : ℕ) (h : block_count c ≤ b) where
-  missing_block : absent ≡ block_at c b
+  pub missing_block : absent ≡ block_at c b
   missing_block = sym (get_or_past c.blocks b absent h)
-
-  pub missing_floor : 0 ≡ floor_at c b
-  missing_floor = ap (λ (y : Block). y.floor) missing_block
-
-  pub missing_erase_count : 0 ≡ erase_count_at c b
-  missing_erase_count = ap (λ (y : Block). y.erases) missing_block
 
   pub missing_read : (p n : ℕ) → read_refusal c b p n ≡ Some 17
   missing_read p n = grind (arith, nat_tests)
@@ -39,6 +36,13 @@ module _ (c : Card) (b : ℕ) (h : block_count c ≤ b) where
 
   pub missing_erase : erase_refusal c b ≡ Some 17
   missing_erase = grind (arith, nat_tests)
+
+-- a refusal of such a block is handed on
+pub no_such_block :
+    {X T : Type 0} (r : Result T Refusal) (e : Refusal) (why : Option ℕ) (was meant : X) →
+    IsErrAnd r (λ x. x ≡ e) → e ≡ NoSuchBlock → why ≡ Some 17 → Outcome r why was meant was
+no_such_block (Ok x) e why was meant h missing is = absurd h
+no_such_block (Err x) e why was meant h missing is = (is ∙ ap (λ y. Some (number_of y)) (sym (h ∙ missing)), refl)
 
 -- measures with another number of blocks
 abbrev pub with_count : ℕ → Geometry → Geometry

@@ -1,20 +1,24 @@
 -- What a pair means, seen from each of its two sides.
-use Rattle.std.proofs.Common.{◌≡◌, ℕ, ◌+◌, ◌*◌, ◌/◌, ◌%◌, ◌<◌, ◌≤◌, true, false, eqb, ◌≢◌, Some, None, sym, refl, ap, ◌∙◌, ⊎_elim, arith}
+use Rattle.std.proofs.Common.{◌≡◌, ℕ, ◌+◌, ◌*◌, ◌/◌, ◌%◌, ◌<◌, ◌≤◌, true, false, eqb, ◌≢◌, Some, Ok, Err, Result, MatchResult, sym, refl, ap, ◌∙◌, ⊎_elim, arith}
+use Rattle.std.specs.Option.{ok_or}
 use Rattle.std.proofs.lemmas.List.FromFn.{length-map-range_with_len, get_or-map-range_with_len}
 use Rattle.std.proofs.lemmas.List.{length-set, get_or-set_same, get_or-set_other, get_or_past}
+use Rattle.std.proofs.lemmas.Option.{cond_some}
 use Rattle.std.proofs.lemmas.Bool.{cond-true, cond-false, cond_both, cases_lt, cases_Bool}
 use Rattle.std.proofs.lemmas.Bool.Decides.{nat_tests}
 use Rattle.flash.specs.declared.block.PhysicalBlock.{PhysicalBlock}
 use Rattle.flash.specs.declared.geometry.Geometry.{Geometry}
+use Rattle.flash.specs.declared.refusal.Refusal.{Refusal}
+use Rattle.flash.specs.declared.refusal.Refusal.TheVariants.{NoSuchBlock}
 use Rattle.flash.specs.Meaning.{Card, Block, absent, no_card, block_at, block_count, geometry_of, with_block, Sound, SoundBlock}
 use Rattle.flash.proofs.CardLaws.{same_geometry}
 use Rattle.flash.proofs.SoundLaws.{no_card_sound}
 use Rattle.layers.specs.declared.pair.Side.{Side}
 use Rattle.layers.specs.declared.pair.Side.TheVariants.{Left, Right}
 use Rattle.layers.specs.Pair.{matching, fitting, side_of, side_in, block_on, beside, pair_card}
-use Rattle.layers.proofs.FlashLaws.{with_count, geometry_with, sound_of}
+use Rattle.layers.proofs.FlashLaws.{missing_block, with_count, geometry_with, sound_of}
 use Rattle.layers.proofs.MapLaws.{counting_put}
-use Rattle.layers.proofs.WhenLaws.{some_when, none_when}
+use Rattle.layers.proofs.WhenLaws.{none_when, ok_when, err_when}
 use Rattle.layers.proofs.SeenLaws.{Seen}
 
 -- the number in the pair of a block on a side
@@ -77,10 +81,10 @@ beside_block l r b fit =
 -- a block that lies on a side of two cards that fit
 module _ (l r : Card) (b : ℕ) (s : Side) (e : Some s ≡ side_in l r b) where
   side_fits : fitting l r ≡ true
-  side_fits = (some_when (fitting l r) s (side_of b) e).0
+  side_fits = (cond_some (fitting l r) (side_of b) s (sym e)).0
 
   side_is : s ≡ side_of b
-  side_is = (some_when (fitting l r) s (side_of b) e).1
+  side_is = sym (cond_some (fitting l r) (side_of b) s (sym e)).1
 
   side_number : number_on s ≡ b
   side_number = ap number_on side_is ∙ number_side b
@@ -127,10 +131,11 @@ right_other l r k z (Right j) ne =
 
 -- a block on the left, seen through the pair
 pub seen_left :
-    (l r : Card) (b : ℕ) {s : Side} {k : PhysicalBlock} → Some s ≡ side_in l r b → s ≡ Left k →
+    (l r : Card) (b : ℕ) (found : Result Side Refusal) {s : Side} {k : PhysicalBlock} →
+    found ≡ ok_or (side_in l r b) NoSuchBlock → found ≡ Ok s → s ≡ Left k →
     Seen (λ (x : Card). pair_card x r) l k.0 b
-seen_left l r b {s} {k} at_side is =
-    let e = ap Some (sym is) ∙ at_side in
+seen_left l r b found {s} {k} made was is =
+    let e = ap Some (sym is) ∙ ok_when (side_in l r b) found NoSuchBlock s made was in
     let count = pair_count l r b (Left k) e in
     let number : 2 * k.0 ≡ b = side_number l r b (Left k) e in
     record {
@@ -144,10 +149,11 @@ seen_left l r b {s} {k} at_side is =
 
 -- a block on the right, seen through the pair
 pub seen_right :
-    (l r : Card) (b : ℕ) {s : Side} {k : PhysicalBlock} → Some s ≡ side_in l r b → s ≡ Right k →
+    (l r : Card) (b : ℕ) (found : Result Side Refusal) {s : Side} {k : PhysicalBlock} →
+    found ≡ ok_or (side_in l r b) NoSuchBlock → found ≡ Ok s → s ≡ Right k →
     Seen (λ (x : Card). pair_card l x) r k.0 b
-seen_right l r b {s} {k} at_side is =
-    let e = ap Some (sym is) ∙ at_side in
+seen_right l r b found {s} {k} made was is =
+    let e = ap Some (sym is) ∙ ok_when (side_in l r b) found NoSuchBlock s made was in
     let fit = fit_from l r (side_fits l r b (Right k) e) in
     let count = pair_count l r b (Right k) e in
     let number : 2 * k.0 + 1 ≡ b = side_number l r b (Right k) e in
@@ -162,8 +168,22 @@ seen_right l r b {s} {k} at_side is =
     }
 
 -- two that do not fit have no block
-pub pair_missing : (l r : Card) (b : ℕ) → None ≡ side_in l r b → block_count (pair_card l r) ≤ b
-pair_missing l r b e = rw (pair_none l r (none_when (fitting l r) (side_of b) e)) (omega arith)
+pub pair_missing :
+    (l r : Card) (b : ℕ) (found : Result Side Refusal) (e : Refusal) →
+    found ≡ ok_or (side_in l r b) NoSuchBlock → found ≡ Err e → (block_count (pair_card l r) ≤ b) × (e ≡ NoSuchBlock)
+pair_missing l r b found e made was =
+    let no = err_when (side_in l r b) found NoSuchBlock e made was in
+    (rw (pair_none l r (none_when (fitting l r) (side_of b) no.0)) (omega arith), no.1)
+
+-- what is measured of a block, and is 0 where there is none
+pub pair_measure :
+    (measure : Block → ℕ) (l r : Card) (b : ℕ) (found : Result Side Refusal) (n : ℕ) → 0 ≡ measure absent →
+    found ≡ ok_or (side_in l r b) NoSuchBlock →
+    MatchResult found (λ s. n ≡ measure (block_on l r s)) (λ _. n ≡ 0) → n ≡ measure (block_at (pair_card l r) b)
+pair_measure measure l r b (Ok s) n none made h =
+    h ∙ ap measure (sym (pair_block l r b s (ok_when (side_in l r b) (Ok s) NoSuchBlock s made refl)))
+pair_measure measure l r b (Err e) n none made h =
+    h ∙ none ∙ ap measure (missing_block (pair_card l r) b (pair_missing l r b (Err e) e made refl).0)
 
 -- the measures of a pair, by the measures g and h of its two sides
 module _ (l r : Card) (g h : Geometry) (e : g ≡ geometry_of l) (f : h ≡ geometry_of r) where

@@ -1,7 +1,7 @@
 -- A block of a card seen through a layer: what a call does to the block below, it does to the block of the layer.
 use Rattle.std.proofs.Common.{◌≡◌, ℕ, ltb, List, [], length, get_or, Result, sym, ap, ◌∙◌}
 use Rattle.flash.specs.declared.refusal.Refusal.{Refusal}
-use Rattle.flash.specs.Meaning.{Card, Shape, Block, block_at, block_count, page_at, floor_at, erase_count_at, with_block, programmed, erased}
+use Rattle.flash.specs.Meaning.{Card, Shape, Block, block_at, block_count, page_at, with_block, programmed, erased}
 use Rattle.flash.specs.Refusals.{Outcome, read_refusal, program_refusal, erase_refusal}
 use Rattle.flash.proofs.RefusalLaws.{outcome_through}
 use Rattle.layers.proofs.FlashLaws.{Local, program_local, erase_local}
@@ -14,12 +14,6 @@ pub record Seen (f : Card → Card) (c : Card) (k b : ℕ) : Type 0 where
   pub put : (x : Block) → f (with_block c k x) ≡ with_block (f c) b x
 
 module _ {f : Card → Card} {c : Card} {k b : ℕ} (s : Seen f c k b) where
-  pub seen_floor : (n : ℕ) → n ≡ floor_at c k → n ≡ floor_at (f c) b
-  seen_floor n h = h ∙ ap (λ (y : Block). y.floor) (sym s.block)
-
-  pub seen_erase_count : (n : ℕ) → n ≡ erase_count_at c k → n ≡ erase_count_at (f c) b
-  seen_erase_count n h = h ∙ ap (λ (y : Block). y.erases) (sym s.block)
-
   -- the call on the layer is the call below, seen through the layer
   seen_call : {call : Card → ℕ → Card} → Local call → f (call c k) ≡ call (f c) b
   seen_call l =

@@ -1,4 +1,6 @@
 ghost use Rattle.std.specs.Prelude.{◌≡◌, ◌≤◌, length};
+ghost use Rattle.std.specs.Option.{ok_or};
+ghost use Rattle.flash.specs.declared.refusal.Refusal.TheVariants.{NoSuchBlock};
 ghost use Rattle.flash.specs.Meaning.{block_count};
 ghost use Rattle.layers.specs.Good.{bad_table, good_numbers, good_block, good_card};
 
@@ -11,40 +13,8 @@ use flash::refusal::Refusal;
 #[derive(Drop)]
 pub struct GoodBlocks<F: Flash> {
     flash: F,
-    // whether the block of this number is bad
+    // whether the block of this number is bad, for each of the most blocks that there can be: a card has no heap
     bad: [bool; 256],
-}
-
-// The number of the good block that has so many good ones before it, if there is one.
-fn find(bad: &[bool; 256], blocks: u16, place: u16) -> Option<PhysicalBlock>
-    requires { blocks ≤ 256 }
-    ensures { result ≡ good_block bad.now blocks place }
-{
-    let mut ahead = place;
-    for number in 0..blocks {
-        if bad[number as usize] {
-            continue;
-        }
-        if ahead == 0 {
-            return Some(PhysicalBlock(number));
-        }
-        ahead -= 1;
-    }
-    None
-}
-
-// How many blocks are good.
-fn tally(bad: &[bool; 256], blocks: u16) -> u16
-    requires { blocks ≤ 256 }
-    ensures { result ≡ length (good_numbers bad.now blocks) }
-{
-    let mut good = 0;
-    for number in 0..blocks {
-        if !bad[number as usize] {
-            good += 1;
-        }
-    }
-    good
 }
 
 impl<F: Flash> GoodBlocks<F> {
@@ -56,8 +26,9 @@ impl<F: Flash> GoodBlocks<F> {
     {
         let mut marks = [false; 256];
         for block in bad {
+            // By index: of a slice that `get_mut` lent an element of, a proof knows no element afterwards.
             let number = block.0 as usize;
-            if number < 256 {
+            if number < marks.len() {
                 marks[number] = true;
             }
         }
@@ -73,10 +44,17 @@ impl<F: Flash> GoodBlocks<F> {
     }
 
     // The block below that a block stands for, if there is one.
-    fn below(&self, block: PhysicalBlock) -> Option<PhysicalBlock>
-        ensures { result ≡ good_block self.now.bad (block_count (F.card self.now.flash)) block.0 }
+    fn below(&self, block: PhysicalBlock) -> Result<PhysicalBlock, Refusal>
+        ensures { result ≡ ok_or (good_block self.now.bad (block_count (F.card self.now.flash)) block.0) NoSuchBlock }
     {
-        find(&self.bad, self.flash.geometry().blocks, block.0)
+        let marks = &self.bad[..self.flash.geometry().blocks as usize];
+        marks
+            .iter()
+            .enumerate()
+            .filter(|(_, bad)| !**bad)
+            .nth(block.0 as usize)
+            .map(|(number, _)| PhysicalBlock(number as u16))
+            .ok_or(Refusal::NoSuchBlock)
     }
 }
 
@@ -85,44 +63,32 @@ impl<F: Flash> Flash for GoodBlocks<F> {
 
     fn geometry(&self) -> Geometry {
         let all = self.flash.geometry();
-        Geometry {
-            blocks: tally(&self.bad, all.blocks),
-            ..all
-        }
+        let marks = &self.bad[..all.blocks as usize];
+        let blocks = marks.iter().filter(|bad| !**bad).count() as u16;
+        Geometry { blocks, ..all }
     }
 
     fn floor(&self, block: PhysicalBlock) -> usize {
-        let Some(below) = self.below(block) else {
-            return 0;
-        };
-        self.flash.floor(below)
+        self.below(block).map_or(0, |below| self.flash.floor(below))
     }
 
     fn erase_count(&self, block: PhysicalBlock) -> u32 {
-        let Some(below) = self.below(block) else {
-            return 0;
-        };
-        self.flash.erase_count(below)
+        self.below(block)
+            .map_or(0, |below| self.flash.erase_count(below))
     }
 
     fn program(&mut self, block: PhysicalBlock, page: usize, bytes: &[u8]) -> Result<(), Refusal> {
-        let Some(below) = self.below(block) else {
-            return Err(Refusal::NoSuchBlock);
-        };
+        let below = self.below(block)?;
         self.flash.program(below, page, bytes)
     }
 
     fn read(&self, block: PhysicalBlock, page: usize, into: &mut [u8]) -> Result<(), Refusal> {
-        let Some(below) = self.below(block) else {
-            return Err(Refusal::NoSuchBlock);
-        };
+        let below = self.below(block)?;
         self.flash.read(below, page, into)
     }
 
     fn erase(&mut self, block: PhysicalBlock) -> Result<(), Refusal> {
-        let Some(below) = self.below(block) else {
-            return Err(Refusal::NoSuchBlock);
-        };
+        let below = self.below(block)?;
         self.flash.erase(below)
     }
 }

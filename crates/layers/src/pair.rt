@@ -1,4 +1,7 @@
 ghost use Rattle.std.specs.Prelude.{◌≡◌};
+ghost use Rattle.std.specs.Option.{ok_or};
+ghost use Rattle.flash.specs.declared.refusal.Refusal.TheVariants.{NoSuchBlock};
+ghost use Rattle.std.specs.Result.{result_err};
 ghost use Rattle.layers.specs.Pair.{matching, pair_fault, side_of, side_in, pair_card};
 
 use flash::block::PhysicalBlock;
@@ -16,6 +19,7 @@ pub struct Pair<L: Flash, R: Flash> {
 }
 
 // A block of one of the two flashes.
+// An enum of its own, since `either` would name its two cases no better.
 #[derive(Clone, Copy)]
 enum Side {
     Left(PhysicalBlock),
@@ -43,13 +47,13 @@ fn side_of(block: PhysicalBlock) -> Side
 
 impl<L: Flash, R: Flash> Pair<L, R> {
     // Why the two flashes do not fit side by side, or nothing where they do.
-    pub fn fault(left: &L, right: &R) -> Option<MakingFault>
-        ensures { result ≡ pair_fault (L.card left.now) (R.card right.now) }
+    pub fn fault(left: &L, right: &R) -> Result<(), MakingFault>
+        ensures { result_err result ≡ pair_fault (L.card left.now) (R.card right.now) }
     {
         if fits(left.geometry(), right.geometry()) {
-            None
+            Ok(())
         } else {
-            Some(MakingFault::OutOfLimits)
+            Err(MakingFault::OutOfLimits)
         }
     }
 
@@ -71,14 +75,14 @@ impl<L: Flash, R: Flash> Pair<L, R> {
         (left, right)
     }
 
-    // The side of a block, or nothing where the two flashes do not fit.
-    fn locate(&self, block: PhysicalBlock) -> Option<Side>
-        ensures { result ≡ side_in (L.card self.now.left) (R.card self.now.right) block.0 }
+    // The side of a block: none has one where the two flashes do not fit.
+    fn locate(&self, block: PhysicalBlock) -> Result<Side, Refusal>
+        ensures { result ≡ ok_or (side_in (L.card self.now.left) (R.card self.now.right) block.0) NoSuchBlock }
     {
         if fits(self.left.geometry(), self.right.geometry()) {
-            Some(side_of(block))
+            Ok(side_of(block))
         } else {
-            None
+            Err(Refusal::NoSuchBlock)
         }
     }
 }
@@ -89,12 +93,7 @@ impl<L: Flash, R: Flash> Flash for Pair<L, R> {
     fn geometry(&self) -> Geometry {
         let left = self.left.geometry();
         if !fits(left, self.right.geometry()) {
-            return Geometry {
-                blocks: 0,
-                pages: 2,
-                size: 4,
-                endurance: 1,
-            };
+            return Geometry::WITHOUT_BLOCKS;
         }
         Geometry {
             blocks: 2 * left.blocks,
@@ -103,50 +102,35 @@ impl<L: Flash, R: Flash> Flash for Pair<L, R> {
     }
 
     fn floor(&self, block: PhysicalBlock) -> usize {
-        let Some(side) = self.locate(block) else {
-            return 0;
-        };
-        match side {
+        self.locate(block).map_or(0, |side| match side {
             Side::Left(below) => self.left.floor(below),
             Side::Right(below) => self.right.floor(below),
-        }
+        })
     }
 
     fn erase_count(&self, block: PhysicalBlock) -> u32 {
-        let Some(side) = self.locate(block) else {
-            return 0;
-        };
-        match side {
+        self.locate(block).map_or(0, |side| match side {
             Side::Left(below) => self.left.erase_count(below),
             Side::Right(below) => self.right.erase_count(below),
-        }
+        })
     }
 
     fn program(&mut self, block: PhysicalBlock, page: usize, bytes: &[u8]) -> Result<(), Refusal> {
-        let Some(side) = self.locate(block) else {
-            return Err(Refusal::NoSuchBlock);
-        };
-        match side {
+        match self.locate(block)? {
             Side::Left(below) => self.left.program(below, page, bytes),
             Side::Right(below) => self.right.program(below, page, bytes),
         }
     }
 
     fn read(&self, block: PhysicalBlock, page: usize, into: &mut [u8]) -> Result<(), Refusal> {
-        let Some(side) = self.locate(block) else {
-            return Err(Refusal::NoSuchBlock);
-        };
-        match side {
+        match self.locate(block)? {
             Side::Left(below) => self.left.read(below, page, into),
             Side::Right(below) => self.right.read(below, page, into),
         }
     }
 
     fn erase(&mut self, block: PhysicalBlock) -> Result<(), Refusal> {
-        let Some(side) = self.locate(block) else {
-            return Err(Refusal::NoSuchBlock);
-        };
-        match side {
+        match self.locate(block)? {
             Side::Left(below) => self.left.erase(below),
             Side::Right(below) => self.right.erase(below),
         }

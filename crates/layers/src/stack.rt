@@ -16,7 +16,10 @@ pub fn stacked<L: Flash, R: Flash>(
     right_bad: &[PhysicalBlock],
     bad: &[PhysicalBlock],
 ) -> GoodBlocks<Pair<GoodBlocks<L>, GoodBlocks<R>>>
-    ensures { good_card result.bad (pair_card (good_card result.flash.left.bad (L.card result.flash.left.flash)) (good_card result.flash.right.bad (R.card result.flash.right.flash))) ≡ stack_card (L.card left) left_bad.now (R.card right) right_bad.now bad.now }
+    ensures { let pair = result.flash in
+        let l = good_card pair.left.bad (L.card pair.left.flash) in
+        let r = good_card pair.right.bad (R.card pair.right.flash) in
+        good_card result.bad (pair_card l r) ≡ stack_card (L.card left) left_bad.now (R.card right) right_bad.now bad.now }
 {
     let left = GoodBlocks::new(left, left_bad);
     let right = GoodBlocks::new(right, right_bad);

@@ -1,5 +1,5 @@
 -- The choice of the greatest, step by step: the place so far is the first of the greatest counts so far.
-use Rattle.std.proofs.Common.{◌≡◌, ℕ, zero, suc, ◌+◌, ◌<◌, ◌≤◌, Bool, true, cond, ltb, ◌⊎◌, List, [], ◌∷◌, map, length, get_or, Some, None, Option, refl, ap, ◌∙◌, inl, inr, ⊎_elim, arith}
+use Rattle.std.proofs.Common.{◌≡◌, ℕ, zero, suc, add-one, ◌+◌, ◌<◌, ◌≤◌, Bool, true, cond, ltb, ◌⊎◌, List, [], ◌∷◌, map, length, get_or, Some, None, Option, refl, ap, ◌∙◌, inl, inr, ⊎_elim, arith}
 use Rattle.std.proofs.lemmas.List.{get_or_default, get_or_past}
 use Rattle.std.proofs.lemmas.Bool.{lt-ltb, le-ltb, cases_lt}
 use Rattle.rules.specs.Choice.{against, greatest}
@@ -19,6 +19,10 @@ module _ {X : Type 0} (f : X → ℕ) (xs : List X) where
   -- the count of an element, read at any default
   read : (i : ℕ) (x : X) → i < length xs → x ≡ get_or xs i x → (d : X) → f x ≡ f (get_or xs i d)
   read i x h e d = ap f (e ∙ get_or_default xs i x d h)
+
+  -- an element of what comes after the first
+  pub read_rest : (x : X) (ys : List X) (i : ℕ) (y : X) → xs ≡ x ∷ ys → y ≡ get_or ys i y → y ≡ get_or xs (i + 1) y
+  read_rest x ys i y e h = rw (e, add-one) h
 
   pub first_none : (x : X) → 0 < length xs → x ≡ get_or xs 0 x → First f xs 1 0 (f x)
   first_none x h e =

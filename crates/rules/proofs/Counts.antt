@@ -1,8 +1,8 @@
 -- What each move does to the counts of live and dead slots: no slot is lost, a merge takes the greatest share of the live ones,
 -- and a compaction recovers just the dead slots of its victim, of which there is at least one.
 use Rattle.std.proofs.Common.{◌≡◌, ℕ, zero, suc, ◌+◌, ◌*◌, ◌<◌, ◌≤◌, Bool, true, false, cond, eqb, ◌≢◌, List, [], ◌∷◌, map, length, get_or, set, Some, sum_by, refl, ap, ◌∙◌, subst, inl, inr, mul-zero, arith}
-use Rattle.std.specs.List.{AllByRecursion, range_with_len}
-use Rattle.std.proofs.lemmas.List.Sums.{sum_by-cons}
+use Rattle.std.specs.List.{All, range_with_len}
+use Rattle.std.proofs.lemmas.List.Sums.{sum_by-cons, sum_by-le-sum_by}
 use Rattle.std.proofs.lemmas.List.{length-map}
 use Rattle.std.proofs.lemmas.Bool.{cases_eq, eq-eqb}
 use Rattle.std.proofs.lemmas.List.FromFn.{length-range_with_len, get_or-range_with_len}
@@ -10,7 +10,7 @@ use Rattle.rules.specs.Choice.{greatest}
 use Rattle.rules.specs.State.{Slot, live, dead, one_live, one_dead, one_of, lives, deads, share_of}
 use Rattle.rules.specs.Moves.{retire, retired, of_block, kept}
 use Rattle.rules.specs.Ready.{Within, Filed}
-use Rattle.rules.proofs.Sums.{sum_same, sum_add, sum_le, sum_le_on, sum_map, sum_swap, moved_sum}
+use Rattle.rules.proofs.Sums.{sum_same, sum_add, sum_le_on, sum_map, sum_swap, moved_sum}
 use Rattle.rules.proofs.Greatest.{Top, top, top_share}
 
 -- ---- every slot is live or dead
@@ -69,8 +69,8 @@ pub retired_live : (picks : ℕ → ℕ → Bool) (t : List (List Slot)) → sum
 retired_live picks t =
     let e = table_map one_live (retire picks) t in
     let f =
-    sum_le (λ xs. sum_by (λ x. one_live (retire picks x)) xs) lives
-    (λ xs. sum_le (λ x. one_live (retire picks x)) one_live (retire_le picks) xs) t in
+    sum_by-le-sum_by (λ xs. sum_by (λ x. one_live (retire picks x)) xs) lives t
+    (λ xs. sum_by-le-sum_by (λ x. one_live (retire picks x)) one_live xs (retire_le picks)) in
     omega arith
 
 -- and as many are live or dead as before
@@ -96,7 +96,7 @@ one_within l n dead h = omega arith
 
 -- the blocks' shares add up to all live slots
 pub spread :
-    (l n : ℕ) (t : List (List Slot)) → AllByRecursion (Filed l n) t → sum_by lives t ≤ sum_by (share_of t) (range_with_len 0 l)
+    (l n : ℕ) (t : List (List Slot)) → All (Filed l n) t → sum_by lives t ≤ sum_by (share_of t) (range_with_len 0 l)
 spread l n t a =
     rw (sum_swap (λ d xs. sum_by (one_of d) xs) (range_with_len 0 l) t)
     (sum_le_on lives (λ xs. sum_by (λ d. sum_by (one_of d) xs) (range_with_len 0 l)) (Filed l n)
@@ -111,7 +111,7 @@ pub record Share (l : ℕ) (t : List (List Slot)) (d : ℕ) : Type 0 where
   pub inside : d < l
   pub share : sum_by lives t ≤ l * share_of t d
 
-pub share : (l n : ℕ) (t : List (List Slot)) → 0 < l → AllByRecursion (Filed l n) t → (d : ℕ) × Share l t d
+pub share : (l n : ℕ) (t : List (List Slot)) → 0 < l → All (Filed l n) t → (d : ℕ) × Share l t d
 share zero n t h a = absurd (omega arith)
 share (suc l) n t h a =
     let r = top (share_of t) 0 (range_with_len (0 + 1) l) 0 in

@@ -1,6 +1,6 @@
 -- An accepted format leaves a state that is ready for calls, with no slot in use.
-use Rattle.std.proofs.Common.{◌≡◌, ℕ, zero, suc, ◌+◌, ◌-◌, ◌*◌, ◌^◌, ◌<◌, ◌≤◌, false, [], replicate, sym, refl, ap, mul-le-mul_right, arith}
-use Rattle.std.specs.List.{AllByRecursion}
+use Rattle.std.proofs.Common.{◌≡◌, ◌+◌, ◌-◌, ◌*◌, ◌^◌, ◌<◌, ◌≤◌, false, [], sym, refl, ap, mul-le-mul_right, arith}
+use Rattle.std.proofs.lemmas.List.Elements.{All-replicate}
 use Rattle.std.proofs.lemmas.List.{length-replicate, get_or-replicate}
 use Rattle.flash.specs.Meaning.{Card, Shape}
 use Rattle.rules.specs.declared.plan.Plan.{Plan}
@@ -21,10 +21,6 @@ pub record Fresh (s : State) : Type 0 where
   pub no_live : live_of s ≡ 0
   pub no_dead : dead_of s ≡ 0
 
-all_replicate : {X : Type 0} (P : X → Type 0) (n : ℕ) (x : X) → P x → AllByRecursion P (replicate n x)
-all_replicate P zero x h = tt
-all_replicate P (suc n) x h = (h, all_replicate P n x h)
-
 module _ (p : Plan) (c : Card) (can : CanFormat p c) where
   -- the card that a format leaves, with the erases that it took
   pub formatted_alike : Alike (clearing_below (p.data + p.region) c) c (formatted p c).card
@@ -39,11 +35,11 @@ module _ (p : Plan) (c : Card) (can : CanFormat p c) where
         inside = omega (arith, can.inside, formatted_alike.blocks_same);
         pages_are = ap (λ (x : Shape). x.pages) (sym formatted_alike.shape_same);
         sets_are = length-replicate p.data 0;
-        sets_fit = all_replicate (λ g. g < 2 ^ c.shape.pages) p.data 0 (omega (arith, set_of_below c.shape.pages (λ _. false)));
+        sets_fit = All-replicate (λ g. g < 2 ^ c.shape.pages) p.data 0 (omega (arith, set_of_below c.shape.pages (λ _. false)));
         rows = length-replicate p.region [];
         reserve_in = omega (arith, can.two);
         reserve_empty = get_or-replicate p.region (p.region - 1) [] [] (omega (arith, can.two));
-        filed = all_replicate (Filed p.data c.shape.pages) p.region [] (filed_none p.data c.shape.pages);
+        filed = All-replicate (Filed p.data c.shape.pages) p.region [] (filed_none p.data c.shape.pages);
       }
 
   -- Q is at least 1, since the threshold and the idle limit leave a slot

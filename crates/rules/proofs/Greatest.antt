@@ -1,7 +1,8 @@
 -- The choice of the greatest: it finds a place, no element counts more than the one there, and that one counts at least the mean.
 use Rattle.std.proofs.Common.{◌≡◌, ℕ, suc, ◌*◌, ◌<◌, ◌≤◌, true, false, ltb, ◌⊎◌, List, [], ◌∷◌, length, get_or, Some, sum_by, refl, ap, ◌∙◌, inl, inr, arith}
-use Rattle.std.specs.List.{AllByRecursion}
-use Rattle.std.proofs.ByRecursion.{sum_by_le, All-weaker}
+use Rattle.std.specs.List.{All}
+use Rattle.std.proofs.lemmas.List.Elements.{All-nil, All-cons, All-weaker}
+use Rattle.std.proofs.lemmas.List.Sums.{sum_by-le}
 use Rattle.std.proofs.lemmas.List.{get_or_default}
 use Rattle.std.proofs.lemmas.Bool.{ltb-true, ltb-false, cases_Bool, cond-true, cond-false}
 use Rattle.rules.specs.Choice.{against, greatest}
@@ -10,7 +11,7 @@ use Rattle.rules.specs.Choice.{against, greatest}
 pub record Top {X : Type 0} (count : X → ℕ) (xs : List X) (d : X) (k : ℕ) : Type 0 where
   pub found : greatest count xs ≡ Some k
   pub inside : k < length xs
-  pub most : AllByRecursion (λ y. count y ≤ count (get_or xs k d)) xs
+  pub most : All (λ y. count y ≤ count (get_or xs k d)) xs
 
 module _ {X : Type 0} (f : X → ℕ) where
   -- one more element in front, which counts less than the greatest or does not
@@ -24,7 +25,7 @@ module _ {X : Type 0} (f : X → ℕ) where
         record {
           found = ap (against f x xs) t.found ∙ cond-true (ltb (f x) (f (get_or xs k x))) (Some (suc k)) (Some 0) e;
           inside = omega (arith, t.inside);
-          most = (omega (arith, ltb-true (f x) (f (get_or xs k x)) e), t.most);
+          most = All-cons (λ y. f y ≤ f (get_or xs k d)) x xs (omega (arith, ltb-true (f x) (f (get_or xs k x)) e)) t.most;
         },
       )
   joined x xs d k t (inr e) =
@@ -33,20 +34,19 @@ module _ {X : Type 0} (f : X → ℕ) where
         record {
           found = ap (against f x xs) t.found ∙ cond-false (ltb (f x) (f (get_or xs k x))) (Some (suc k)) (Some 0) e;
           inside = omega arith;
-          most = (
-            omega arith,
-            All-weaker (λ y. f y ≤ f (get_or xs k d)) (λ y. f y ≤ f x) (λ y l. omega (arith, ltb-false (f x) (f (get_or xs k x)) e)) xs t.most,
-          );
+          most =
+              All-cons (λ y. f y ≤ f x) x xs (omega arith)
+              (All-weaker (λ y. f y ≤ f (get_or xs k d)) (λ y. f y ≤ f x) (λ y l. omega (arith, ltb-false (f x) (f (get_or xs k x)) e)) xs t.most);
         },
       )
 
   pub top : (x : X) (xs : List X) (d : X) → (k : ℕ) × Top f (x ∷ xs) d k
   unfolding greatest
-  top x [] d = (0, record { found = refl; inside = omega arith; most = (omega arith, tt) })
+  top x [] d = (0, record { found = refl; inside = omega arith; most = All-cons (λ y. f y ≤ f x) x [] (omega arith) (All-nil (λ y. f y ≤ f x)) })
   top x (y ∷ ys) d =
       let r = top y ys d in
       joined x (y ∷ ys) d r.0 r.1 (cases_Bool (ltb (f x) (f (get_or (y ∷ ys) r.0 x))))
 
   -- the greatest is at least the mean
   pub top_share : (xs : List X) (d : X) (k : ℕ) → Top f xs d k → sum_by f xs ≤ length xs * f (get_or xs k d)
-  top_share xs d k t = sum_by_le f (f (get_or xs k d)) xs t.most
+  top_share xs d k t = sum_by-le f (f (get_or xs k d)) xs t.most

@@ -1,27 +1,26 @@
 -- Maps that name only pages of the plan, and each at most once, stay so where a row or a set changes, and have room for their slots.
 -- And such a fact can be taken out of its truncation.
-use Rattle.std.proofs.Common.{◌≡◌, ℕ, ◌+◌, ◌-◌, ◌^◌, ◌<◌, ◌≤◌, Bool, true, false, cond, List, [], ◌∷◌, map, length, get_or, set, replicate, sum_by, count_by, sym, refl, ap, ◌∙◌, subst, inl, inr, arith}
+use Rattle.std.proofs.Common.{◌≡◌, ℕ, ◌+◌, ◌-◌, ◌^◌, ◌<◌, ◌≤◌, false, cond, List, [], length, get_or, set, replicate, sum_by, count_by, sym, refl, ap, ◌∙◌, subst, inl, inr, arith}
 use mathlib.Core.Logic.{∥∥₁_elim}
 use denote.Struct.Props.{props}
 use std.HLevel.{Π_prop}
 use native.Mathlib.Bridge.{le_prop}
-use Rattle.std.specs.List.{AllByRecursion}
-use Rattle.std.proofs.lemmas.List.{length-set, length-map, get_or-set_same, get_or-set_other, set_past, length-replicate, get_or-replicate, get_or_past, nil_from_length}
-use Rattle.std.proofs.ByRecursion.{All-set, All-from_get_or}
+use Rattle.std.specs.List.{All}
+use Rattle.std.proofs.lemmas.List.{length-set, get_or-set_same, get_or-set_other, set_past, length-replicate, get_or-replicate, get_or_past, nil_from_length}
+use Rattle.std.proofs.lemmas.List.Elements.{All-set, All-from_get_or}
 use Rattle.std.proofs.lemmas.List.Sums.{sum_by-set}
 use Rattle.std.proofs.lemmas.Bool.{cases_Bool, cases_eq, cases_lt}
 use Rattle.flash.specs.Meaning.{Card, absent}
 use Rattle.rules.specs.declared.plan.Plan.{Plan}
 use Rattle.rules.specs.Sets.{has}
 use Rattle.rules.specs.State.{Slot, live, dead, State, capacity, is_at}
-use Rattle.rules.specs.Moves.{retire}
 use Rattle.rules.specs.Ready.{Within, Filed, Orderly}
 use Rattle.rules.proofs.SetLaws.{has_none, set_of_below}
-use Rattle.rules.proofs.Slots.{filed_none, filed_retire}
+use Rattle.rules.proofs.Slots.{filed_none}
 use Rattle.rules.proofs.Sums.{sum_replicate_zero}
 use Rattle.rules.proofs.Rounds.{Good}
 use Rattle.rules.proofs.Space.{used_le}
-use Rattle.rules.proofs.Places.{one_at, named_in, named_retired}
+use Rattle.rules.proofs.Places.{one_at, named_in}
 
 -- a set counts page i once if it has it
 abbrev pub in_set : ℕ → ℕ → ℕ
@@ -62,22 +61,6 @@ orderly_row p n sets t res r xs h k o =
           ];
       once = λ d i. omega (arith, o.once d i, k.fewer d i, sum_by-set (count_by (is_at d i)) t r xs [] h);
     }
-
--- slots that die, as a test picks them
-pub lesser_retired :
-    (l n : ℕ) (picks : ℕ → ℕ → Bool) (xs : List Slot) → Filed l n xs → Lesser l n xs (map (retire picks) xs)
-lesser_retired l n picks xs f =
-    record {
-      filed = filed_retire l n picks xs f;
-      same = length-map xs (retire picks);
-      fewer = λ d i. go d i (picks d i) (named_retired d i picks (xs ∷ []));
-    }
-  where
-    go :
-        (d i : ℕ) (b : Bool) → named_in d i (map (retire picks) xs ∷ []) ≡ cond b 0 (named_in d i (xs ∷ [])) →
-        named_by d i (map (retire picks) xs) ≤ named_by d i xs
-    go d i true e = omega arith
-    go d i false e = omega arith
 
 -- one slot that dies
 pub lesser_marked : (l n : ℕ) (xs : List Slot) (k : ℕ) → Filed l n xs → k < length xs → Lesser l n xs (set xs k dead)
@@ -181,9 +164,8 @@ orderly_empty p n h =
 
 -- ---- out of the truncation
 
-pub all_prop : {X : Type 0} (P : X → Type 0) → ((x : X) → IsProp (P x)) → (xs : List X) → IsProp (AllByRecursion P xs)
-all_prop P e [] a b = refl
-all_prop P e (x ∷ xs) a b = λ i. (e x a.0 b.0 i, all_prop P e xs a.1 b.1 i)
+pub all_prop : {X : Type 0} (P : X → Type 0) → ((x : X) → IsProp (P x)) → (xs : List X) → IsProp (All P xs)
+all_prop P e xs = Π_prop (λ k. Π_prop (λ d. Π_prop (λ _. e (get_or xs k d))))
 
 within_prop : (l n : ℕ) (x : Slot) → IsProp (Within l n x)
 within_prop l n (live d i) a b = λ j. (le_prop a.0 b.0 j, le_prop a.1 b.1 j)

@@ -1,7 +1,7 @@
 -- A state whose flash is sound and agrees with its maps: every move finds its programs and erases accepted, and leaves such a state.
 use Rattle.std.proofs.Common.{◌≡◌, ℕ, ◌+◌, ◌<◌, ◌≤◌, Bool, ◌≢◌, List, [], ◌∷◌, ◌++◌, map, length, get_or, set, Some, None, sym, ap, ◌∙◌, subst, inl, inr, arith}
 use Rattle.std.proofs.lemmas.List.{length-set, length-map, length_push, get_or-set_same, get_or-set_other, get_or-map}
-use Rattle.std.proofs.ByRecursion.{All-get_or}
+use Rattle.std.proofs.lemmas.List.Elements.{All-get_or}
 use Rattle.std.proofs.lemmas.Bool.{cases_eq}
 use Rattle.flash.specs.Meaning.{Card, Shape, Block, block_count, floor_at, erase_count_at, programmed, erased, Sound}
 use Rattle.flash.specs.Refusals.{program_refusal, erase_refusal}

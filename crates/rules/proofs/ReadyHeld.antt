@@ -1,7 +1,7 @@
 -- Where a page is held lies on the card, so that it can be read, and what is gathered for a block are whole pages.
 use Rattle.std.proofs.Common.{◌≡◌, ℕ, suc, ◌+◌, ◌^◌, ◌<◌, Bool, true, false, cond, List, [], ◌∷◌, length, get_or, Some, None, Option, sym, refl, ap, ◌∙◌, inl, inr, arith}
-use Rattle.std.specs.List.{AllByRecursion}
-use Rattle.std.proofs.ByRecursion.{All-get_or}
+use Rattle.std.specs.List.{All}
+use Rattle.std.proofs.lemmas.List.Elements.{All-head, All-tail, All-get_or}
 use Rattle.std.proofs.lemmas.Bool.{cases_lt, both_ways}
 use Rattle.flash.specs.Meaning.{page_at, block_count, Sound}
 use Rattle.flash.specs.Refusals.{read_refusal}
@@ -27,11 +27,11 @@ slot_inside d i (x ∷ xs) k e = go (is_at d i x) (slot_for d i xs) e (slot_insi
     go false (Some j) q rest = let z : suc j ≡ k = cc in omega (arith, rest j refl)
 
 place_inside :
-    (l n d i b : ℕ) (t : List (List Slot)) (p : ℕ × ℕ) → AllByRecursion (Filed l n) t → place_for d i b t ≡ Some p →
+    (l n d i b : ℕ) (t : List (List Slot)) (p : ℕ × ℕ) → All (Filed l n) t → place_for d i b t ≡ Some p →
     (p.0 < b + length t) × (p.1 < n)
 unfolding place_for
 place_inside l n d i b [] p a e = absurd (let z : ◌≡◌ {A = ℕ} 0 1 = cc in omega arith)
-place_inside l n d i b (xs ∷ xss) p a e = go (slot_for d i xs) refl e (place_inside l n d i (b + 1) xss p a.1)
+place_inside l n d i b (xs ∷ xss) p a e = go (slot_for d i xs) refl e (place_inside l n d i (b + 1) xss p (All-tail (Filed l n) xs xss a))
   where
     go :
         (o : Option ℕ) → slot_for d i xs ≡ o →
@@ -42,7 +42,7 @@ place_inside l n d i b (xs ∷ xss) p a e = go (slot_for d i xs) refl e (place_i
         let z : (b, k) ≡ p = cc in
         let block : b ≡ p.0 = ap (λ (x : ℕ × ℕ). x.0) z in
         let page : k ≡ p.1 = ap (λ (x : ℕ × ℕ). x.1) z in
-        (omega arith, omega (arith, slot_inside d i xs k q, a.0.short))
+        (omega arith, omega (arith, slot_inside d i xs k q, (All-head (Filed l n) xs xss a).short))
     go None q f rest = let r = rest f in (omega arith, omega arith)
 
 -- the flash page that the maps name for a page of the plan

@@ -1,8 +1,8 @@
 -- What one move does: the state stays good, the erase counts rise by just what is told, and no slot is lost but those that a compaction recovers.
 use Rattle.std.proofs.Common.{◌≡◌, ℕ, ◌+◌, ◌*◌, ◌^◌, ◌<◌, ◌≤◌, Bool, not, ◌&&◌, List, [], map, length, get_or, set, is_some, sym, refl, ap, ◌∙◌, subst, mul_comm, add-mul, arith}
-use Rattle.std.specs.List.{AllByRecursion}
+use Rattle.std.specs.List.{All}
 use Rattle.std.proofs.lemmas.List.{length-set, length-map, get_or-set_same, get_or-map}
-use Rattle.std.proofs.ByRecursion.{All-set, All-map, All-get_or, All-weaker}
+use Rattle.std.proofs.lemmas.List.Elements.{All-set, All-map, All-get_or, All-weaker}
 use Rattle.flash.specs.Meaning.{Card, Shape, block_count, erased}
 use Rattle.rules.specs.Sets.{has, set_of}
 use Rattle.rules.specs.State.{Slot, State, deads, live_of, dead_of, share_of}
@@ -19,11 +19,11 @@ pub record Good (s : State) : Type 0 where
   pub inside : s.plan.data + s.plan.region ≤ block_count s.card
   pub pages_are : s.pages ≡ s.card.shape.pages
   pub sets_are : length s.sets ≡ s.plan.data
-  pub sets_fit : AllByRecursion (λ g. g < 2 ^ s.pages) s.sets
+  pub sets_fit : All (λ g. g < 2 ^ s.pages) s.sets
   pub rows : length s.table ≡ s.plan.region
   pub reserve_in : s.reserve < s.plan.region
   pub reserve_empty : get_or s.table s.reserve [] ≡ []
-  pub filed : AllByRecursion (Filed s.plan.data s.pages) s.table
+  pub filed : All (Filed s.plan.data s.pages) s.table
 
 -- what a move leaves, with e erases
 pub record Moved (e : ℕ) (s t : State) : Type 0 where

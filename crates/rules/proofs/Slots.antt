@@ -1,20 +1,22 @@
 -- Lists of slots that fit the plan: live slots are pages of it, no list is longer than a block, and every move keeps that.
 use Rattle.std.proofs.Common.{ℕ, ◌<◌, ◌≤◌, Bool, true, false, cond, List, [], ◌∷◌, ◌++◌, map, length, arith}
-use Rattle.std.specs.List.{AllByRecursion}
+use Rattle.std.specs.List.{All}
 use Rattle.std.proofs.lemmas.List.{length-map, length_push}
-use Rattle.std.proofs.ByRecursion.{All-map, All-weaker, All-push}
+use Rattle.std.proofs.lemmas.List.Elements.{All-nil, All-cons, All-head, All-tail, All-map, All-weaker, All-push}
 use Rattle.rules.specs.State.{Slot, live, dead}
 use Rattle.rules.specs.Moves.{retire, kept}
 use Rattle.rules.specs.Ready.{Within, Filed}
 
 pub filed_none : (l n : ℕ) → Filed l n []
-filed_none l n = record { within = tt; short = omega arith }
+filed_none l n = record { within = All-nil (Within l n); short = omega arith }
 
-within_kept : (l n : ℕ) (xs : List Slot) → AllByRecursion (Within l n) xs → AllByRecursion (Within l n) (kept xs)
+within_kept : (l n : ℕ) (xs : List Slot) → All (Within l n) xs → All (Within l n) (kept xs)
 unfolding kept
-within_kept l n [] a = tt
-within_kept l n (live d i ∷ xs) a = (a.0, within_kept l n xs a.1)
-within_kept l n (dead ∷ xs) a = within_kept l n xs a.1
+within_kept l n [] a = All-nil (Within l n)
+within_kept l n (live d i ∷ xs) a =
+    let w = Within l n in
+    All-cons w (live d i) (kept xs) (All-head w (live d i) xs a) (within_kept l n xs (All-tail w (live d i) xs a))
+within_kept l n (dead ∷ xs) a = within_kept l n xs (All-tail (Within l n) dead xs a)
 
 pub length_kept : (xs : List Slot) → length (kept xs) ≤ length xs
 unfolding kept

@@ -1,7 +1,8 @@
 -- There is always space: no more slots are used than there are, and the rounds of a flush free as many as it needs, with few erases.
 use Rattle.std.proofs.Common.{◌≡◌, ℕ, suc, ◌+◌, ◌-◌, ◌*◌, ◌<◌, ◌≤◌, max, [], length, get_or, set, replicate, sum_by, ap, ◌∙◌, ap₂, inl, inr, mul-le-mul_right, add-mul, arith}
 use Rattle.std.proofs.lemmas.List.Sums.{sum_by-set, sum_by_push}
-use Rattle.std.proofs.ByRecursion.{sum_by_le, All-set, All-weaker}
+use Rattle.std.proofs.lemmas.List.Elements.{All-set, All-weaker}
+use Rattle.std.proofs.lemmas.List.Sums.{sum_by-le}
 use Rattle.std.proofs.lemmas.List.{length-set, length-replicate}
 use Rattle.std.proofs.lemmas.Bool.{cases_lt}
 use Rattle.rules.specs.State.{dead, State, capacity, quota, live_of, dead_of, free_of}
@@ -23,7 +24,7 @@ used_le s g =
     let a = sum_by-set length s.table s.reserve full [] (omega (arith, g.rows, g.reserve_in)) in
     let z : length (get_or s.table s.reserve []) ≡ 0 = ap length g.reserve_empty in
     let short = All-weaker (Filed s.plan.data n) (λ xs. length xs ≤ n) (λ xs f. f.short) s.table g.filed in
-    let b = sum_by_le length n t (All-set (λ xs. length xs ≤ n) s.table s.reserve full (omega arith) short) in
+    let b = sum_by-le length n t (All-set (λ xs. length xs ≤ n) s.table s.reserve full (omega arith) short) in
     let rows : length t * n ≡ (s.plan.region - 1 + 1) * n =
     ap (λ (m : ℕ). m * n) (length-set s.table s.reserve full ∙ omega (arith, g.rows, g.reserve_in)) in
     let split : (s.plan.region - 1 + 1) * n ≡ (s.plan.region - 1) * n + 1 * n = add-mul (s.plan.region - 1) 1 n in

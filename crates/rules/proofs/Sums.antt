@@ -1,7 +1,9 @@
 -- Sums over lists: pointwise laws, the exchange of two sums, and what a list that moves to another place changes.
-use Rattle.std.proofs.Common.{◌≡◌, ℕ, zero, suc, ◌+◌, ◌<◌, ◌≤◌, ◌≢◌, List, [], ◌∷◌, map, length, get_or, set, replicate, sum_by, sym, refl, ap, ◌∙◌, arith}
-use Rattle.std.specs.List.{AllByRecursion}
+use Rattle.std.proofs.Common.{◌≡◌, ℕ, ◌+◌, ◌*◌, ◌<◌, ◌≤◌, ◌≢◌, List, [], ◌∷◌, map, length, get_or, set, replicate, sum_by, sym, refl, ap, ◌∙◌, arith}
+use Rattle.std.specs.List.{All}
+use Rattle.std.proofs.lemmas.List.Folds.{sum_by-replicate}
 use Rattle.std.proofs.lemmas.List.Sums.{sum_by-cons, sum_by-set}
+use Rattle.std.proofs.lemmas.List.Elements.{All-head, All-tail}
 use Rattle.std.proofs.lemmas.List.{length-set, get_or-set_other}
 
 -- ---- pointwise laws
@@ -22,14 +24,10 @@ module _ {X : Type 0} where
 
   -- at the elements of a list of which something is known
   pub sum_le_on :
-      (f g : X → ℕ) (P : X → Type 0) → ((x : X) → P x → f x ≤ g x) → (xs : List X) → AllByRecursion P xs → sum_by f xs ≤ sum_by g xs
+      (f g : X → ℕ) (P : X → Type 0) → ((x : X) → P x → f x ≤ g x) → (xs : List X) → All P xs → sum_by f xs ≤ sum_by g xs
   sum_le_on f g P e [] a = omega arith
   sum_le_on f g P e (x ∷ xs) a =
-      omega (arith, sum_by-cons f x xs, sum_by-cons g x xs, e x a.0, sum_le_on f g P e xs a.1)
-
-  pub sum_le : (f g : X → ℕ) → ((x : X) → f x ≤ g x) → (xs : List X) → sum_by f xs ≤ sum_by g xs
-  sum_le f g e [] = omega arith
-  sum_le f g e (x ∷ xs) = omega (arith, sum_by-cons f x xs, sum_by-cons g x xs, e x, sum_le f g e xs)
+      omega (arith, sum_by-cons f x xs, sum_by-cons g x xs, e x (All-head P x xs a), sum_le_on f g P e xs (All-tail P x xs a))
 
   pub sum_map : {Y : Type 0} (f : Y → ℕ) (g : X → Y) (xs : List X) → sum_by f (map g xs) ≡ sum_by (λ x. f (g x)) xs
   sum_map f g [] = refl
@@ -37,9 +35,7 @@ module _ {X : Type 0} where
       omega (arith, sum_by-cons f (g x) (map g xs), sum_by-cons (λ x. f (g x)) x xs, sum_map f g xs)
 
   pub sum_replicate_zero : (f : X → ℕ) (y : X) → f y ≡ 0 → (n : ℕ) → sum_by f (replicate n y) ≡ 0
-  sum_replicate_zero f y e zero = refl
-  sum_replicate_zero f y e (suc n) =
-      omega (arith, sum_by-cons f y (replicate n y), sum_replicate_zero f y e n)
+  sum_replicate_zero f y e n = sum_by-replicate f n y ∙ omega (arith, ap (λ k. n * k) e)
 
 -- ---- the order of two sums may be exchanged
 

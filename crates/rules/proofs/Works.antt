@@ -1,8 +1,8 @@
 -- What rounds of garbage collection add up to: every slot that they recover was dead, and each merge takes its share of the live ones.
 use Rattle.std.proofs.Common.{◌≡◌, ℕ, zero, suc, ◌+◌, ◌*◌, ◌<◌, ◌≤◌, Bool, true, false, ltb, List, [], ◌∷◌, ◌++◌, sum_by, sym, refl, ap, subst, ap₂, add-mul, arith}
-use Rattle.std.specs.List.{AllByRecursion}
+use Rattle.std.specs.List.{All}
 use Rattle.std.proofs.lemmas.List.Sums.{sum_by-cons, sum_by_push}
-use Rattle.std.proofs.ByRecursion.{All-push}
+use Rattle.std.proofs.lemmas.List.Elements.{All-nil, All-head, All-tail, All-push}
 use Rattle.std.proofs.lemmas.Bool.{ltb-true, ltb-false}
 use Rattle.rules.specs.declared.plan.Plan.{Plan}
 use Rattle.rules.specs.State.{State, quota, live_of, dead_of, free_of}
@@ -64,11 +64,11 @@ pub record ProperSums (rs : List Round) : Type 0 where
   pub recovers : compactions_in rs ≤ recovered_in rs
   pub data_le : data_erases_in rs ≤ merges_in rs
 
-pub proper_sums : (rs : List Round) → AllByRecursion Proper rs → ProperSums rs
+pub proper_sums : (rs : List Round) → All Proper rs → ProperSums rs
 proper_sums [] a = record { erases_are = refl; recovers = omega arith; data_le = omega arith }
 proper_sums (r ∷ rs) a =
-    let p = a.0 in
-    let s = proper_sums rs a.1 in
+    let p = All-head Proper r rs a in
+    let s = proper_sums rs (All-tail Proper r rs a) in
     let c = sum_by-cons one_compaction r rs in
     let d = sum_by-cons data_erase r rs in
     record {
@@ -81,12 +81,12 @@ proper_sums (r ∷ rs) a =
 
 pub record Worked (q : ℕ) (s : State) (w : Work) : Type 0 where
   pub leaves : Moved (erases_in w.rounds) s w.state
-  pub proper : AllByRecursion Proper w.rounds
+  pub proper : All Proper w.rounds
   pub slots : live_of w.state + dead_of w.state + recovered_in w.rounds ≡ live_of s + dead_of s
   pub shares : merges_in w.rounds * q + live_of w.state * s.plan.data ≤ live_of s * s.plan.data
 
 pub worked_none : (q : ℕ) (s : State) → Good s → Worked q s (at_rest s)
-worked_none q s g = record { leaves = moved_none s g; proper = tt; slots = omega arith; shares = omega arith }
+worked_none q s g = record { leaves = moved_none s g; proper = All-nil Proper; slots = omega arith; shares = omega arith }
 
 -- one more round, with its move
 one_more :

@@ -1,6 +1,6 @@
 -- What the maps keep by themselves, and what ties them to the flash.
 use Rattle.std.specs.Prelude.{◌≡◌, ℕ, ◌+◌, ◌^◌, ◌<◌, ◌≤◌, cond, List, [], length, sum_by, count_by, slice_index, slice_index_or}
-use Rattle.std.specs.List.{AllByRecursion}
+use Rattle.std.specs.List.{All}
 use Rattle.flash.specs.Meaning.{block_count, floor_at, Sound}
 use Rattle.rules.specs.declared.plan.Plan.{Plan}
 use Rattle.rules.specs.Sets.{has}
@@ -13,15 +13,15 @@ Within l n dead = Unit {0}
 
 -- a block of the page-mapped region holds at most n slots, of pages of the plan
 pub record Filed (l n : ℕ) (xs : List Slot) : Type 0 where
-  pub within : AllByRecursion (Within l n) xs
+  pub within : All (Within l n) xs
   pub short : length xs ≤ n
 
 -- maps that name only pages of the plan, and each at most once
 pub record Orderly (p : Plan) (pages : ℕ) (sets : List ℕ) (table : List (List Slot)) (reserve : ℕ) : Type 0 where
   pub sets_are : length sets ≡ p.data
-  pub sets_fit : AllByRecursion (λ g. g < 2 ^ pages) sets
+  pub sets_fit : All (λ g. g < 2 ^ pages) sets
   pub rows : length table ≡ p.region
-  pub filed : AllByRecursion (Filed p.data pages) table
+  pub filed : All (Filed p.data pages) table
   pub reserve_in : reserve < p.region
   pub reserve_empty : slice_index_or table reserve [] ≡ []
   pub once : (d i : ℕ) → cond (has (slice_index sets d) i) 1 0 + sum_by (count_by (is_at d i)) table ≤ 1

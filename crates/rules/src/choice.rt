@@ -11,19 +11,27 @@ pub trait Counted {
         ensures { result ≡ tally self.now };
 }
 
+// A number is its own count.
+impl Counted for usize {
+    ghost tally = { λ n. n };
+
+    fn count(&self) -> usize {
+        *self
+    }
+}
+
 // The place of the record with the greatest count, the lowest place on a tie. None if there is no record.
 pub fn greatest<T: Counted>(records: &[T]) -> Option<usize>
     ensures { result ≡ greatest_by T.tally records.now }
 {
-    if records.len() == 0 {
-        return None;
-    }
+    // by hand: of equal counts `max_by_key` gives the last, and the first is wanted
+    let (first, rest) = records.split_first()?;
     let mut best = 0;
-    let mut most = records[0].count();
-    for place in 1..records.len() {
-        let count = records[place].count();
+    let mut most = first.count();
+    for (place, record) in rest.iter().enumerate() {
+        let count = record.count();
         if count > most {
-            best = place;
+            best = place + 1;
             most = count;
         }
     }

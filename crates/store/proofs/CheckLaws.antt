@@ -1,5 +1,5 @@
 -- The tests of the calls, one after the other.
-use Rattle.std.proofs.Common.{◌≡◌, ℕ, ◌*◌, ◌^◌, ◌<◌, ◌≤◌, Bool, true, false, eqb, ltb, List, length, Some, None, Ok, Err, Option, Result, sym, refl, ap, ◌∙◌, arith}
+use Rattle.std.proofs.Common.{◌≡◌, ℕ, ◌*◌, ◌^◌, ◌<◌, ◌≤◌, true, false, eqb, ltb, List, length, Some, None, Ok, Err, Option, Result, sym, refl, ap, ◌∙◌, arith}
 use Rattle.std.proofs.lemmas.Bool.Decides.{nat_tests}
 use Rattle.rules.specs.Sets.{pages_in}
 use Rattle.rules.specs.State.{State}
@@ -9,7 +9,7 @@ use Rattle.rules.proofs.PageSetLaws.{pages_same}
 use Rattle.rules.proofs.Steps.{number_for, meant_by, step_meant, step_refused}
 use Rattle.store.specs.declared.refusal.StoreRefusal.{StoreRefusal}
 use Rattle.store.specs.declared.refusal.StoreRefusal.TheVariants.{Unformatted, NoSuchBlock, NoSuchPage, EmptySet, WrongData, ShortArea, NearWorn, WrongBuffer, NotHeld, PlanOutOfLimits, FlashTooSmall}
-use Rattle.store.specs.Calls.{answer_in, state_after, number_in, state_in, CheckedAs}
+use Rattle.store.specs.Calls.{answer_in, state_after, number_in, block_number, Accepted, CheckedAs}
 use Rattle.store.specs.Numbers.{number_of}
 
 -- no refusal has the number 0
@@ -30,16 +30,20 @@ number_pos FlashTooSmall = omega arith
 pub number_as : (o : Option State) (s : State) (call : Call) (n : ℕ) → o ≡ Some s → number_for s call ≡ n → number_in o call ≡ n
 number_as o s call n e h = ap (λ (x : Option State). number_in x call) e ∙ h
 
-pub number_none : (o : Option State) (call : Call) → o ≡ None → number_in o call ≡ 6
-number_none o call e = ap (λ (x : Option State). number_in x call) e
+-- ---- the block and the page
+
+module _ (o : Option State) (d : ℕ) where
+  pub discard_refused : (g n : ℕ) → block_number o d ≡ n → 0 < n → number_in o (discard d g) ≡ n
+  unfolding discard_number
+  discard_refused g n e h = go o e
+    where
+      go : (x : Option State) → block_number x d ≡ n → number_in x (discard d g) ≡ n
+      go None q = q
+      go (Some s) q = grind (arith, nat_tests)
 
 -- ---- the numbers
 
 module _ (s : State) (d g : ℕ) where
-  pub discard_7 : s.plan.data ≤ d → discard_number s d g ≡ 7
-  unfolding discard_number
-  discard_7 h = grind (arith, nat_tests)
-
   module _ (in_plan : d < s.plan.data) where
     pub discard_8 : ltb g (2 ^ s.pages) ≡ false → discard_number s d g ≡ 8
     unfolding discard_number
@@ -104,11 +108,15 @@ module _ (o : Option State) (d g : ℕ) (bytes : List ℕ) (area : ℕ) where
       flush_number_lem = flush_rest s d g (length bytes) area pages len
 
 -- a flush of the right length passes the tests of an idle round
-pub checked_as_lem :
-    {T : Type 0} (r : Result T StoreRefusal) (f : Bool) (s : State) (d g : ℕ) (bytes : List ℕ) (area : ℕ) → state_in f s ≡ Some s → discard_number s d g ≡ 0 →
-    length bytes ≡ pages_in s.pages g * s.card.shape.size → CheckedAs r f s (idle area) → CheckedAs r f s (flush d g bytes area)
-checked_as_lem (Ok x) f s d g bytes area is pages len h = (h.0, flush_number_lem (state_in f s) d g bytes area s is pages len ∙ h.1)
-checked_as_lem (Err e) f s d g bytes area is pages len h = flush_as_idle (state_in f s) d g bytes area s is pages len ∙ h
+pub flush_checked :
+    {T : Type 0} (r : Result T StoreRefusal) (o : Option State) (s : State) (d g : ℕ) (bytes : List ℕ) (area : ℕ) → o ≡ Some s → discard_number s d g ≡ 0 →
+    length bytes ≡ pages_in s.pages g * s.card.shape.size → CheckedAs r o (idle area) → CheckedAs r o (flush d g bytes area)
+flush_checked (Ok x) o s d g bytes area is pages len h =
+    let same : s ≡ h.0 = let e = h.1.in_force.is in cc in (
+      h.0,
+      record { in_force = h.1.in_force; passed = rw (← same) (flush_number_lem o d g bytes area s is pages len) ∙ h.1.passed },
+    )
+flush_checked (Err e) o s d g bytes area is pages len h = flush_as_idle o d g bytes area s is pages len ∙ h
 
 -- a set that passes its tests has as many pages as bits
 pub pages_counted :
@@ -127,9 +135,10 @@ module _ (o : Option State) (call : Call) where
           let r = step_refused s call n q h in
           (ap (λ (y : Answer × State). y.0) r, ap (λ (y : Answer × State). Some y.1) r)
 
-  pub accepted_answer : (s : State) → o ≡ Some s → number_for s call ≡ 0 → (answer_in o call ≡ (meant_by s call).0) × (state_after o call ≡ Some (meant_by s call).1)
-  accepted_answer s e h =
-      let r = step_meant s call h in (
+  pub accepted_answer : (s : State) → Accepted o call s → (answer_in o call ≡ (meant_by s call).0) × (state_after o call ≡ Some (meant_by s call).1)
+  accepted_answer s a =
+      let r = step_meant s call a.passed in
+      let e = a.in_force.is in (
         ap (λ (x : Option State). answer_in x call) e ∙ ap (λ (y : Answer × State). y.0) r,
         ap (λ (x : Option State). state_after x call) e ∙ ap (λ (y : Answer × State). Some y.1) r,
       )

@@ -1,13 +1,14 @@
 -- The live pages of a block, copied one after the other.
-use Rattle.std.proofs.Common.{◌≡◌, ℕ, ◌+◌, ◌<◌, ◌≤◌, List, [], ◌∷◌, ◌++◌, length, get_or, drop, sym, ap, ◌∙◌, subst, append_assoc, arith}
-use Rattle.std.proofs.lemmas.List.{drop_more, drop_all, append-nil}
+use Rattle.std.proofs.Common.{◌≡◌, ℕ, ◌+◌, ◌<◌, ◌≤◌, List, [], ◌∷◌, ◌++◌, map, length, get_or, take, drop, sym, ap, ◌∙◌, subst, append_assoc, arith}
+use Rattle.std.proofs.lemmas.List.{drop_more, drop_all, append-nil, length-map, get_or-map}
 use Rattle.flash.specs.Meaning.{Card, page_at, programmed}
 use Rattle.rules.specs.State.{Slot, live, dead}
 use Rattle.rules.specs.Moves.{kept, copied}
 use Rattle.rules.proofs.ReadyCards.{Copying, copying_none, copying_dead, copying_live}
+use Rattle.store.specs.declared.slot.Slot as declared
 use Rattle.store.specs.declared.slot.RegionBlock.{RegionBlock}
 use Rattle.store.specs.Moves.{CanCopy}
-use Rattle.store.specs.View.{slots_of, Shaped}
+use Rattle.store.specs.View.{slot_of, slots_of}
 use Rattle.store.proofs.SlotLaws.{slots_length}
 
 -- the first i of the slots xs are done: the copies ys lie in the t first pages of block `to`, and the card is k
@@ -67,15 +68,24 @@ copied_all c xs from to i k ys t r h =
       sym (ap (λ (zs : List Slot). copied from to zs i t k) d) ∙ r.rest,
     )
 
+-- the used slots, as a loop goes over them and as the rules see them
+module _ (b : RegionBlock) (xs : List declared.Slot) (are : xs ≡ take b.used b.slots) where
+  pub used_length : length (slots_of b) ≡ length xs
+  used_length = length-map (take b.used b.slots) slot_of ∙ sym (ap length are)
+
+  pub used_slot : (i : ℕ) (d x : declared.Slot) → i < length xs → get_or xs i d ≡ x → get_or (slots_of b) i dead ≡ slot_of x
+  used_slot i d x h e =
+      ap (λ (t : List declared.Slot). get_or (map slot_of t) i dead) (sym are) ∙ get_or-map slot_of xs i d dead h ∙ ap slot_of e
+
 -- the copies can be made, as the rules count the slots
 pub can_copy_slots :
-    (b : RegionBlock) (c : Card) (from to n : ℕ) → Shaped b → CanCopy c b.used from to n → CanCopy c (length (slots_of b)) from to n
-can_copy_slots b c from to n s can =
+    (b : RegionBlock) (c : Card) (from to n : ℕ) → CanCopy c b.used from to n → CanCopy c (length (slots_of b)) from to n
+can_copy_slots b c from to n can =
     record {
       sound = can.sound;
       from_in = can.from_in;
       to_in = can.to_in;
       blank = can.blank;
-      short = omega (arith, can.short, slots_length b s);
+      short = omega (arith, can.short, slots_length b);
       bytes = can.bytes;
     }

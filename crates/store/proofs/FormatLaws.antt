@@ -1,13 +1,14 @@
 -- What format answers, test by test, and the state that it leaves.
-use Rattle.std.proofs.Common.{◌≡◌, ℕ, ◌+◌, ◌<◌, ◌≤◌, true, false, Some, refl, ap, ◌∙◌}
+use Rattle.std.proofs.Common.{◌≡◌, ℕ, ◌+◌, ◌<◌, ◌≤◌, true, false, Some, refl, ◌∙◌}
 use Rattle.std.proofs.lemmas.Bool.{lt-ltb, le-ltb}
 use Rattle.flash.specs.Meaning.{Card, block_count, Sound}
 use Rattle.rules.specs.declared.plan.Plan.{Plan}
 use Rattle.rules.specs.State.{State, plan_within}
 use Rattle.rules.specs.Calls.{near_worn, format_number, cleared_below, formatted}
 use Rattle.rules.proofs.ReadyCalls.{ready_formatted}
+use Rattle.store.specs.declared.maps.Maps.{Maps}
 use Rattle.store.specs.Calls.{state_in}
-use Rattle.store.specs.State.{empty_maps}
+use Rattle.store.specs.State.{state_of, empty_maps}
 use Rattle.store.proofs.AgreeLaws.{state_kept}
 
 module _ (p : Plan) (c : Card) where
@@ -37,5 +38,5 @@ formatted_is p n c k s e f g = e ∙ rw (f, g) refl
 
 -- and it is the state of the store
 pub format_leaves :
-    (p : Plan) (c : Card) (s : State) → Sound c → format_number p c ≡ 0 → s ≡ formatted p c → state_in true s ≡ Some (formatted p c)
-format_leaves p c s sound ok e = ap (state_in true) e ∙ state_kept (formatted p c) (ready_formatted p c sound ok)
+    (p : Plan) (c k : Card) (m : Maps) → Sound c → format_number p c ≡ 0 → state_of m k ≡ formatted p c → state_in (Some m) k ≡ Some (formatted p c)
+format_leaves p c k m sound ok e = state_kept m k (formatted p c) e (ready_formatted p c sound ok)

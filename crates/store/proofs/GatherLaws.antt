@@ -1,10 +1,8 @@
 -- The new contents of a block, gathered page by page in an area.
 use Rattle.std.proofs.Common.{◌≡◌, ℕ, ◌+◌, ◌*◌, ◌<◌, ◌≤◌, Bool, true, false, cond, ◌||◌, eqb, ◌≢◌, List, length, take, drop, Some, None, Option, sym, refl, ap, ◌∙◌, subst, inl, inr, add-mul, one-mul, add-one, arith}
-use native.Mathlib.Nat.{sub-zero}
 use borrow.Rule.Slice.PartMut.{put_mid}
-use Rattle.std.specs.List.{between}
 use Rattle.std.proofs.lemmas.List.{drop-take, drop-drop, drop_at, length-take-le, length-drop}
-use Rattle.std.proofs.lemmas.Slice.{between_to_end, take-put_mid_below, take-put_mid, drop-put_mid}
+use Rattle.std.proofs.lemmas.Slice.{take-put_mid_below, take-put_mid}
 use Rattle.std.proofs.lemmas.Bool.{cases_eq, cases_lt, eq-eqb, ne_eqb}
 use Rattle.flash.specs.Meaning.{Card, page_at}
 use Rattle.rules.specs.Sets.{has, set_of, pages_in}
@@ -45,10 +43,6 @@ own_there b x e = ap (λ (t : Bool). page_if t x) e
 
 pub own_not : (b : Bool) (x : List ℕ) → b ≡ false → page_if b x ≡ None
 own_not b x e = ap (λ (t : Bool). page_if t x) e
-
--- the front of a slice
-pub front : (n size : ℕ) (xs : List ℕ) → n ≡ size → between 0 n xs ≡ take size xs
-front n size xs e = ap (λ (k : ℕ). take k xs) (sub-zero n ∙ e)
 
 -- ---- the bytes of the group that are left
 
@@ -91,14 +85,13 @@ module _ (size g : ℕ) (bytes : List ℕ) where
         let left = ap length is ∙ length-drop (pages_in i g * size) bytes in
         omega arith
 
-    pub rest_next : has g i ≡ true → between size (length rest) rest ≡ drop (pages_in (i + 1) g * size) bytes
+    pub rest_next : has g i ≡ true → drop size rest ≡ drop (pages_in (i + 1) g * size) bytes
     rest_next q =
         let z : pages_in i g * size + size ≡ pages_in (i + 1) g * size =
         let next = pages_next g i true q in
         let e : pages_in (i + 1) g * size ≡ (pages_in i g + 1) * size = ap (λ (n : ℕ). n * size) next in
         omega (arith, add-mul (pages_in i g) 1 size, one-mul size) in
-        between_to_end rest size (length rest) (omega arith)
-        ∙ ap (drop size) is ∙ drop-drop size (pages_in i g * size) bytes
+        ap (drop size) is ∙ drop-drop size (pages_in i g * size) bytes
         ∙ ap (λ (n : ℕ). drop n bytes) z
 
     pub rest_same : has g i ≡ false → rest ≡ drop (pages_in (i + 1) g * size) bytes
@@ -183,7 +176,3 @@ module _ (row : Row) (set size : ℕ) (area : List ℕ) (n : ℕ) (laid : Laid r
           ap (λ (t : Bool). page_if t (take size (drop (n * size) after))) added.here
           ∙ ap (page_if there) (part_at area part (n * size) size fits len)
           ∙ e
-
-  -- and nothing changes beyond
-  pub beyond_more : (m : ℕ) → n * size + size ≤ m → drop m (put_mid (n * size) size area part) ≡ drop m area
-  beyond_more m h = drop-put_mid (n * size) size area part m h (omega arith) len

@@ -1,5 +1,6 @@
 pub mod AgreeLaws
 pub mod AppendLaws
+pub mod AreaLaws
 pub mod ChangeLaws
 pub mod CheckLaws
 pub mod CompactLaws

@@ -1,13 +1,14 @@
--- A group is placed, and an idle round made, as the rules have it; and the state that a call leaves is the store's.
-use Rattle.std.proofs.Common.{◌≡◌, ℕ, ◌*◌, ◌^◌, ◌<◌, ◌≤◌, Bool, true, false, ltb, leb, List, [], ◌++◌, length, drop, replicate, Some, sym, ap, ◌∙◌, ap₂, arith}
+-- A group is placed, and an idle round made, as the rules have it.
+use Rattle.std.proofs.Common.{◌≡◌, ℕ, ◌*◌, ◌^◌, ◌<◌, ◌≤◌, Bool, true, false, ltb, leb, List, [], length, Some, None, Option, sym, ap, ◌∙◌, ap₂, arith}
 use Rattle.std.proofs.lemmas.Bool.{lt-ltb, le-ltb, le-leb, lt-leb}
 use Rattle.flash.specs.Meaning.{erase_count_at}
 use Rattle.rules.specs.declared.plan.Plan.{Plan}
 use Rattle.rules.specs.Sets.{has, pages_in}
 use Rattle.rules.specs.State.{State, free_of}
-use Rattle.rules.specs.Moves.{round, rounds_for, at_rest, rewritten, dropped, appended, clearing}
+use Rattle.rules.specs.Moves.{Round, round, rounds_for, at_rest, rewritten, dropped, appended, clearing}
 use Rattle.rules.specs.Calls.{Answer, done, told, to_data, to_region, flushed_as, flushed, rested_as, rested, row_of, watched}
 use Rattle.rules.specs.Ready.{Ready}
+use Rattle.rules.proofs.Accepted.{CanFlush}
 use Rattle.rules.proofs.ReadyAppends.{free_dropped}
 use Rattle.rules.proofs.ReadyErases.{far_from_worn}
 use Rattle.rules.proofs.ReadyLoops.{passable, passes_after, idle_round}
@@ -15,30 +16,42 @@ use Rattle.rules.proofs.ReadyMoves.{ready_good, ready_dropped}
 use Rattle.rules.proofs.ReadyOnce.{places_dropped}
 use Rattle.rules.proofs.ReadyRounds.{Roundable}
 use Rattle.rules.proofs.SetLaws.{pages_le}
+use Rattle.store.specs.declared.region.Region.{Region}
+use Rattle.store.specs.declared.region.Region.TheVariants.{PageMapped, BlockMapped}
+use Rattle.store.specs.declared.report.Report.{Report as Told}
 use Rattle.store.specs.declared.tally.Tally.{Tally}
 use Rattle.store.specs.Appends.{CanAppend}
-use Rattle.store.specs.Calls.{state_in, block_bytes}
+use Rattle.store.specs.Calls.{way_in, report_of, CarriedOut}
 use Rattle.store.specs.Moves.{CanRewrite}
-use Rattle.store.specs.Rounds.{tally_of, CanMakeRoom, CanPlace, CanRest}
-use Rattle.store.proofs.AgreeLaws.{state_kept}
+use Rattle.store.specs.Rounds.{tally_of, CanMakeRoom, CanPlace, CanRest, Made}
 
--- ---- the state that a call leaves
+-- ---- what is told
 
-pub kept_state : (f : Bool) (s t : State) → state_in f s ≡ Some s → Ready t → state_in f t ≡ Some t
-kept_state false s t e r = absurd (let z : ◌≡◌ {A = ℕ} 0 1 = cc in omega arith)
-kept_state true s t e r = state_kept t r
+-- a report by its parts
+told_as :
+    (r : Told) (way erases compactions merges : ℕ) → way_in r.way ≡ way → r.erases ≡ erases → r.compactions ≡ compactions → r.merges ≡ merges →
+    done (report_of r) ≡ done (record { way = way; erases = erases; compactions = compactions; merges = merges; bytes = [] })
+told_as r way erases compactions merges a b c d = cc
 
--- a work area that is wiped as far as it was used
-pub wiped :
-    (s : State) (n : ℕ) (was used is : List ℕ) → Ready s → n ≡ s.pages * s.card.shape.size → is ≡ replicate n 0 ++ drop n used →
-    drop (s.pages * s.card.shape.size) used ≡ drop (s.pages * s.card.shape.size) was →
-    is ≡ replicate (block_bytes s.card) 0 ++ drop (block_bytes s.card) was
-wiped s n was used is r e h beyond =
-    let all : s.pages * s.card.shape.size ≡ block_bytes s.card = ap (λ (p : ℕ). p * s.card.shape.size) r.agrees.pages_are in
-    h ∙ ap (λ (k : ℕ). replicate k 0 ++ drop k used) e ∙ ap (λ (z : List ℕ). replicate (s.pages * s.card.shape.size) 0 ++ z) beyond
-    ∙ ap (λ (k : ℕ). replicate k 0 ++ drop k was) all
+-- a report of the rounds that a tally counts
+abbrev pub report_by : Option Region → Tally → Told
+report_by way tally = record { way = way; erases = tally.erases; compactions = tally.compactions; merges = tally.merges }
+
+told_rounds :
+    (r : Told) (way : Option Region) (tally : Tally) (rs : List Round) → r ≡ report_by way tally → tally ≡ tally_of rs →
+    done (report_of r) ≡ told (way_in way) rs
+told_rounds r way tally rs e f = ap (λ (x : Told). done (report_of x)) e ∙ ap (λ (x : Tally). done (report_of (report_by way x))) f
 
 -- ---- a group
+
+-- a group can be placed by way of the part of the area that is lent
+pub place_by :
+    (s : State) (d g bytes area part : ℕ) → Ready s → CanFlush s d g bytes area → s.pages * s.card.shape.size ≤ part → CanPlace s d g bytes part
+place_by s d g bytes area part ready f h =
+    record {
+      ready = ready;
+      flushable = record { inside = f.inside; fits = f.fits; some = f.some; bytes = f.bytes; area_long = h; lasts = f.lasts };
+    }
 
 module _ (s : State) (d g : ℕ) (bytes : List ℕ) (area : ℕ) (can : CanPlace s d g (length bytes) area) where
   -- every block can be erased
@@ -68,19 +81,19 @@ module _ (s : State) (d g : ℕ) (bytes : List ℕ) (area : ℕ) (can : CanPlace
 
   -- more pages than the threshold
   pub placed_large :
-      (n erases : ℕ) (t : State) → n ≡ pages_in s.pages g → s.plan.threshold < n → erases ≡ clearing s.card d →
-      t ≡ rewritten s d (row_of s.card.shape.size g bytes) →
-      (done (record { way = 2; erases = erases; compactions = 0; merges = 0; bytes = [] }) ≡ (flushed s d g (row_of s.card.shape.size g bytes)).0)
-      × (t ≡ (flushed s d g (row_of s.card.shape.size g bytes)).1)
+      (n : ℕ) (r : Told) (t : State) → n ≡ pages_in s.pages g → s.plan.threshold < n → r.way ≡ Some BlockMapped → r.erases ≡ clearing s.card d →
+      r.compactions ≡ 0 → r.merges ≡ 0 → t ≡ rewritten s d (row_of s.card.shape.size g bytes) →
+      CarriedOut r t (flushed s d g (row_of s.card.shape.size g bytes))
   unfolding flushed
-  placed_large n erases t e h c is =
+  placed_large n r t e h way erases compactions merges is =
       let row = row_of s.card.shape.size g bytes in
       let big : ltb s.plan.threshold (pages_in s.pages g) ≡ true = lt-ltb s.plan.threshold (pages_in s.pages g) (omega arith) in
       let all : to_data s d row ≡ flushed_as (ltb s.plan.threshold (pages_in s.pages g)) s d g row (pages_in s.pages g) =
-      sym (ap (λ (b : Bool). flushed_as b s d g row (pages_in s.pages g)) big) in (
-        ap (λ (k : ℕ). done (record { way = 2; erases = k; compactions = 0; merges = 0; bytes = [] })) c ∙ ap (λ (x : Answer × State). x.0) all,
-        is ∙ ap (λ (x : Answer × State). x.1) all,
-      )
+      sym (ap (λ (b : Bool). flushed_as b s d g row (pages_in s.pages g)) big) in
+      record {
+        tells = told_as r 2 _ 0 0 (ap way_in way) erases compactions merges ∙ ap (λ (x : Answer × State). x.0) all;
+        leaves = is ∙ ap (λ (x : Answer × State). x.1) all;
+      }
 
   -- what the rounds have made
   module _ (n : ℕ) (e : n ≡ pages_in s.pages g) (t : State) (is : t ≡ (rounds_for (2 * n) n (at_rest s)).state) where
@@ -118,13 +131,11 @@ module _ (s : State) (d g : ℕ) (bytes : List ℕ) (area : ℕ) (can : CanPlace
           })
 
       pub placed_small :
-          (tally : Tally) (v : State) → n ≤ s.plan.threshold → tally ≡ tally_of (rounds_for (2 * n) n (at_rest s)).rounds →
-          v ≡ appended u d (row_of u.card.shape.size g bytes) u.pages →
-          (done (record { way = 1; erases = tally.erases; compactions = tally.compactions; merges = tally.merges; bytes = [] })
-          ≡ (flushed s d g (row_of s.card.shape.size g bytes)).0)
-          × (v ≡ (flushed s d g (row_of s.card.shape.size g bytes)).1)
+          (tally : Tally) (r : Told) (v : State) → n ≤ s.plan.threshold → tally ≡ tally_of (rounds_for (2 * n) n (at_rest s)).rounds →
+          r ≡ report_by (Some PageMapped) tally → v ≡ appended u d (row_of u.card.shape.size g bytes) u.pages →
+          CarriedOut r v (flushed s d g (row_of s.card.shape.size g bytes))
       unfolding flushed dropped
-      placed_small tally v h q f =
+      placed_small tally r v h q report f =
           let row = row_of s.card.shape.size g bytes in
           let small : ltb s.plan.threshold (pages_in s.pages g) ≡ false = le-ltb s.plan.threshold (pages_in s.pages g) (omega arith) in
           let all : to_region s d g row (pages_in s.pages g) ≡ flushed_as (ltb s.plan.threshold (pages_in s.pages g)) s d g row (pages_in s.pages g) =
@@ -134,11 +145,11 @@ module _ (s : State) (d g : ℕ) (bytes : List ℕ) (area : ℕ) (can : CanPlace
           let size : u.card.shape.size ≡ s.card.shape.size = ap (λ (x : State). x.card.shape.size) dropped_is ∙ ap (λ x. x.size) pass.2 in
           let state : v ≡ appended (dropped (rounds_for (2 * n) n (at_rest s)).state d (has g)) d row s.pages =
           f ∙ ap₂ (λ a b. appended u d (row_of a g bytes) b) size pages
-          ∙ ap (λ (x : State). appended x d row s.pages) (dropped_is ∙ ap (λ (x : State). dropped x d (has g)) is) in (
-            ap (λ (x : Tally). done (record { way = 1; erases = x.erases; compactions = x.compactions; merges = x.merges; bytes = [] })) q
-                ∙ ap (λ (x : Answer × State). x.0) (same ∙ all),
-            state ∙ ap (λ (x : Answer × State). x.1) (same ∙ all),
-          )
+          ∙ ap (λ (x : State). appended x d row s.pages) (dropped_is ∙ ap (λ (x : State). dropped x d (has g)) is) in
+          record {
+            tells = told_rounds r (Some PageMapped) tally (rounds_for (2 * n) n (at_rest s)).rounds report q ∙ ap (λ (x : Answer × State). x.0) (same ∙ all);
+            leaves = state ∙ ap (λ (x : Answer × State). x.1) (same ∙ all);
+          }
 
 -- ---- an idle round
 
@@ -146,17 +157,24 @@ module _ (s : State) (area : ℕ) (can : CanRest s area) where
   pub rest_collects : free_of s ≤ s.plan.idle → Roundable s
   rest_collects h = idle_round s can.ready can.lasts h can.low
 
-  pub rests : s.plan.idle < free_of s → rested s ≡ (told 0 [], s)
+  pub rests :
+      (r : Told) (t : State) → s.plan.idle < free_of s → r.way ≡ None → r.erases ≡ 0 → r.compactions ≡ 0 → r.merges ≡ 0 → t ≡ s →
+      CarriedOut r t (rested s)
   unfolding rested
-  rests h = ap (λ (b : Bool). rested_as b s) (lt-leb (free_of s) s.plan.idle h)
+  rests r t h way erases compactions merges is =
+      let none : rested s ≡ (told 0 [], s) = ap (λ (b : Bool). rested_as b s) (lt-leb (free_of s) s.plan.idle h) in
+      record {
+        tells = told_as r 0 0 0 0 (ap way_in way) erases compactions merges ∙ sym (ap (λ (x : Answer × State). x.0) none);
+        leaves = is ∙ sym (ap (λ (x : Answer × State). x.1) none);
+      }
 
   pub works :
-      (tally : Tally) (t : State) → free_of s ≤ s.plan.idle → tally ≡ tally_of (round (at_rest s)).rounds → t ≡ (round (at_rest s)).state →
-      (done (record { way = 0; erases = tally.erases; compactions = tally.compactions; merges = tally.merges; bytes = [] }) ≡ (rested s).0) × (t ≡ (rested s).1)
+      (tally : Tally) (r : Told) (t : State) → free_of s ≤ s.plan.idle → Made tally t (round (at_rest s)) → r ≡ report_by None tally →
+      CarriedOut r t (rested s)
   unfolding rested
-  works tally t h q is =
-      let all : rested_as true s ≡ rested_as (leb (free_of s) s.plan.idle) s = sym (ap (λ (b : Bool). rested_as b s) (le-leb (free_of s) s.plan.idle h)) in (
-        ap (λ (x : Tally). done (record { way = 0; erases = x.erases; compactions = x.compactions; merges = x.merges; bytes = [] })) q
-            ∙ ap (λ (x : Answer × State). x.0) all,
-        is ∙ ap (λ (x : Answer × State). x.1) all,
-      )
+  works tally r t h round_made report =
+      let all : rested_as true s ≡ rested_as (leb (free_of s) s.plan.idle) s = sym (ap (λ (b : Bool). rested_as b s) (le-leb (free_of s) s.plan.idle h)) in
+      record {
+        tells = told_rounds r None tally (round (at_rest s)).rounds report round_made.counted ∙ ap (λ (x : Answer × State). x.0) all;
+        leaves = round_made.state ∙ ap (λ (x : Answer × State). x.1) all;
+      }

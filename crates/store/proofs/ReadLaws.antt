@@ -1,26 +1,29 @@
 -- What a read answers, test by test.
-use Rattle.std.proofs.Common.{◌≡◌, ℕ, ◌<◌, ◌≤◌, Bool, true, false, cond, is_some, Some, None, Option, sym, refl, ap, ◌∙◌, arith}
+use Rattle.std.proofs.Common.{◌≡◌, ℕ, ◌<◌, Bool, true, false, cond, ◌&&◌, ltb, is_some, Some, None, Option, ap, ◌∙◌, arith}
 use Rattle.std.proofs.lemmas.Bool.Decides.{nat_tests}
 use Rattle.rules.specs.State.{State, held}
 use Rattle.rules.specs.Calls.{Call, read, Answer, refused, step, unless, read_number, gives}
-use Rattle.store.specs.Calls.{answer_in, agreeing, state_in}
+use Rattle.rules.proofs.Steps.{number_for, step_refused}
+use Rattle.store.specs.Calls.{answer_in, page_number, held_in}
 
--- a store that has a state has just this one
-pub state_is : (f : Bool) (s : State) (r : Bool) → r ≡ is_some (state_in f s) → r ≡ true → state_in f s ≡ Some s
-state_is false s r e h = absurd (let z : ◌≡◌ {A = Bool} false true = sym e ∙ h in let y : ◌≡◌ {A = ℕ} 0 1 = cc in omega arith)
-state_is true s r e h = go (agreeing s) (sym e ∙ h)
-  where
-    go : (b : Bool) → is_some (cond b (Some s) None) ≡ true → cond b (Some s) None ≡ Some s
-    go true q = refl
-    go false q = absurd (let y : ◌≡◌ {A = ℕ} 0 1 = cc in omega arith)
+-- ---- the block and the page
 
-pub state_none : (f : Bool) (s : State) (r : Bool) → r ≡ is_some (state_in f s) → r ≡ false → state_in f s ≡ None
-state_none false s r e h = refl
-state_none true s r e h = go (agreeing s) (sym e ∙ h)
-  where
-    go : (b : Bool) → is_some (cond b (Some s) None) ≡ false → cond b (Some s) None ≡ None
-    go true q = absurd (let y : ◌≡◌ {A = ℕ} 0 1 = cc in omega arith)
-    go false q = refl
+module _ (o : Option State) (d i n : ℕ) (e : page_number o d i ≡ n) (h : 0 < n) where
+  -- a read that is refused for them
+  pub read_refused : (len : ℕ) → answer_in o (read d i len) ≡ refused n
+  unfolding read_number
+  read_refused len = go o e
+    where
+      go : (x : Option State) → page_number x d i ≡ n → answer_in x (read d i len) ≡ refused n
+      go None q = ap refused q
+      go (Some s) q =
+          let m : number_for s (read d i len) ≡ n = grind (arith, nat_tests) in
+          ap (λ (y : Answer × State). y.0) (step_refused s (read d i len) n m h)
+
+pub held_inside : (o : Option State) (s : State) (d i : ℕ) → o ≡ Some s → d < s.plan.data → i < s.pages → held_in o d i ≡ held s d i
+held_inside o s d i e h l =
+    let inside : (ltb d s.plan.data && ltb i s.pages) ≡ true = grind (arith, nat_tests) in
+    ap (λ (x : Option State). held_in x d i) e ∙ ap (λ (b : Bool). cond b (held s d i) None) inside
 
 -- the answer of a store with this state
 pub answer_as : (o : Option State) (s : State) (call : Call) (a : Answer) → o ≡ Some s → (step s call).0 ≡ a → answer_in o call ≡ a
@@ -31,15 +34,7 @@ module _ (s : State) (d i len : ℕ) where
   unfolding step
   read_by n e = ap (λ (m : ℕ). (unless m s (gives s.card (held s d i), s)).0) e
 
-  pub read_7 : s.plan.data ≤ d → (step s (read d i len)).0 ≡ refused 7
-  unfolding read_number
-  read_7 h = read_by 7 (grind (arith, nat_tests))
-
   module _ (in_plan : d < s.plan.data) where
-    pub read_8 : s.pages ≤ i → (step s (read d i len)).0 ≡ refused 8
-    unfolding read_number
-    read_8 h = read_by 8 (grind (arith, nat_tests))
-
     module _ (a_page : i < s.pages) where
       pub read_13 : (len ≡ s.card.shape.size → ⊥) → (step s (read d i len)).0 ≡ refused 13
       unfolding read_number

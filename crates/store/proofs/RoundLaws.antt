@@ -1,11 +1,8 @@
 -- Rounds of garbage collection, as the code makes and counts them.
-use Rattle.std.proofs.Common.{◌≡◌, ℕ, zero, suc, ◌+◌, ◌*◌, ◌<◌, ◌≤◌, Bool, true, false, cond, ltb, List, [], ◌∷◌, ◌++◌, length, take, drop, Some, sym, refl, ap, ◌∙◌, ap₂, mul-le-mul_right, zero-mul, arith, pow_pos}
+use Rattle.std.proofs.Common.{◌≡◌, ℕ, zero, suc, ◌+◌, ◌*◌, ◌<◌, ◌≤◌, Bool, true, false, cond, ltb, [], ◌∷◌, ◌++◌, Some, sym, refl, ap, ◌∙◌, ap₂, mul-le-mul_right, zero-mul, arith, pow_pos}
 use Rattle.rules.specs.Sets.{has, pages_in}
 use Rattle.rules.proofs.SetLaws.{has_none}
-use borrow.Rule.Slice.PartMut.{put_mid}
 use Rattle.std.specs.List.{range_with_len}
-use Rattle.std.proofs.lemmas.List.{length-take-le}
-use Rattle.std.proofs.lemmas.Slice.{drop-put_mid}
 use Rattle.rules.specs.Choice.{greatest}
 use Rattle.rules.specs.State.{State, deads, dead_of, free_of, share_of}
 use Rattle.rules.specs.Moves.{Work, Round, round, rounds_for, at_rest, erases_in, compactions_in, merges_in, or_zero, victim, fullest, compacted_at, rewritten, clearing, no_row, round_as, compaction_of, merge_of}
@@ -14,7 +11,7 @@ use Rattle.rules.proofs.ReadyRounds.{Roundable}
 use Rattle.rules.proofs.ReadyLoops.{Passable, passable, passes_after, after_rounds, round_compacts, round_merges, round_counted, few_rounds, rounds_none, rounds_more, rounds_end, added, made}
 use Rattle.store.specs.declared.tally.Tally.{Tally}
 use Rattle.store.specs.Moves.{CanRewrite}
-use Rattle.store.specs.Rounds.{tally_of, Roomy, CanMakeRoom}
+use Rattle.store.specs.Rounds.{tally_of, tally_sum, Made, Roomy, CanMakeRoom}
 
 -- ---- one round
 
@@ -24,34 +21,31 @@ page_fits s n r h =
     let wide : 1 * s.card.shape.size ≤ s.pages * s.card.shape.size = mul-le-mul_right s.card.shape.size (omega (arith, r.agrees.pages_are, r.sound.pages_low)) in
     omega arith
 
--- the first page of an area is written, and the rest beyond a block's pages stays
-pub page_beyond :
-    (s : State) (area x : List ℕ) (k : ℕ) → Ready s → Roomy s (length area) → k ≡ s.card.shape.size → length x ≡ length (take k area) →
-    drop (s.pages * s.card.shape.size) (put_mid 0 k area x) ≡ drop (s.pages * s.card.shape.size) area
-page_beyond s area x k r h e l =
-    let wide : 1 * s.card.shape.size ≤ s.pages * s.card.shape.size = mul-le-mul_right s.card.shape.size (omega (arith, r.agrees.pages_are, r.sound.pages_low)) in
-    drop-put_mid 0 k area x (s.pages * s.card.shape.size) (omega arith) (omega arith) (l ∙ length-take-le k area (omega arith))
-
 -- a compaction is a round where a slot is dead
 pub compaction_round :
-    (s t : State) (v : ℕ) → 0 < dead_of s → greatest deads s.table ≡ Some v → t ≡ compacted_at s v →
-    (record { erases = 1; compactions = 1; merges = 0 } ≡ tally_of (round (at_rest s)).rounds) × (t ≡ (round (at_rest s)).state)
-compaction_round s t v h e is =
+    (s t : State) (tally : Tally) (v : ℕ) → 0 < dead_of s → greatest deads s.table ≡ Some v →
+    tally ≡ record { erases = 1; compactions = 1; merges = 0 } → t ≡ compacted_at s v → Made tally t (round (at_rest s))
+compaction_round s t tally v h e c is =
     let w = round_compacts (at_rest s) h in
-    (sym (ap (λ (x : Work). tally_of x.rounds) w), is ∙ ap (compacted_at s) (sym (ap or_zero e)) ∙ sym (ap (λ (x : Work). x.state) w))
+    record {
+      counted = c ∙ sym (ap (λ (x : Work). tally_of x.rounds) w);
+      state = is ∙ ap (compacted_at s) (sym (ap or_zero e)) ∙ sym (ap (λ (x : Work). x.state) w);
+    }
 
 -- and a merge where none is
 pub merge_round :
-    (s t : State) (d erases : ℕ) → dead_of s ≡ 0 → greatest (share_of s.table) (range_with_len 0 s.plan.data) ≡ Some d →
-    erases ≡ clearing s.card d → t ≡ rewritten s d no_row →
-    (record { erases = erases; compactions = 0; merges = 1 } ≡ tally_of (round (at_rest s)).rounds) × (t ≡ (round (at_rest s)).state)
-merge_round s t d erases h e c is =
+    (s t : State) (tally : Tally) (d erases : ℕ) → dead_of s ≡ 0 → greatest (share_of s.table) (range_with_len 0 s.plan.data) ≡ Some d →
+    tally ≡ record { erases = erases; compactions = 0; merges = 1 } → erases ≡ clearing s.card d → t ≡ rewritten s d no_row →
+    Made tally t (round (at_rest s))
+merge_round s t tally d erases h e l c is =
     let w = round_merges (at_rest s) h in
-    let chosen : d ≡ fullest s = sym (ap or_zero e) in (
-      ap (λ (n : ℕ). record { erases = n; compactions = 0; merges = 1 }) (c ∙ ap (clearing s.card) chosen ∙ sum_one (clearing s.card (fullest s)))
-          ∙ sym (ap (λ (x : Work). tally_of x.rounds) w),
-      is ∙ ap (λ (b : ℕ). rewritten s b no_row) chosen ∙ sym (ap (λ (x : Work). x.state) w),
-    )
+    let chosen : d ≡ fullest s = sym (ap or_zero e) in
+    record {
+      counted =
+          l ∙ ap (λ (n : ℕ). record { erases = n; compactions = 0; merges = 1 }) (c ∙ ap (clearing s.card) chosen ∙ sum_one (clearing s.card (fullest s)))
+          ∙ sym (ap (λ (x : Work). tally_of x.rounds) w);
+      state = is ∙ ap (λ (b : ℕ). rewritten s b no_row) chosen ∙ sym (ap (λ (x : Work). x.state) w);
+    }
   where
     sum_one : (n : ℕ) → n ≡ 0 + n
     sum_one n = omega arith
@@ -123,10 +117,11 @@ same_tally :
 same_tally a b c d e f p q r = cc
 
 module _ (n : ℕ) (s : State) where
-  pub making_none : MakingRoom n s s (record { erases = 0; compactions = 0; merges = 0 })
-  making_none =
+  pub making_none : (t : Tally) → t.erases ≡ 0 → t.compactions ≡ 0 → t.merges ≡ 0 → MakingRoom n s s t
+  making_none t p q r =
       let w = rounds_none n (at_rest s) in
-      record { state = sym (ap (λ (x : Work). x.state) w); tally = sym (ap (λ (x : Work). tally_of x.rounds) w); few = omega arith }
+      let none : t ≡ record { erases = 0; compactions = 0; merges = 0 } = same_tally _ _ _ _ _ _ p q r in
+      rw none (record { state = sym (ap (λ (x : Work). x.state) w); tally = sym (ap (λ (x : Work). tally_of x.rounds) w); few = omega arith })
 
   -- no count is above the rounds
   pub making_few : (is : State) (t : Tally) → MakingRoom n s is t → n ≤ 64 → (t.erases ≤ 128) × (t.compactions ≤ 128) × (t.merges ≤ 128)
@@ -152,7 +147,7 @@ module _ (n : ℕ) (s : State) where
         rw h.state (p.pages_same, p.shape_same)
 
     -- and a round is one more
-    module _ (is now : State) (t one : Tally) (h : MakingRoom n s is t) (short : free_of is < n) (e : one ≡ tally_of (round (at_rest is)).rounds) where
+    module _ (is now : State) (t one : Tally) (h : MakingRoom n s is t) (short : free_of is < n) (made_one : Made one now (round (at_rest is))) where
       w : Work
       w = rounds_for (count_of t) n (at_rest s)
 
@@ -160,57 +155,44 @@ module _ (n : ℕ) (s : State) where
       unfolding w
       same = ap (λ (x : State). round (at_rest x)) (sym h.state)
 
-      tally_is :
-          record { erases = t.erases + one.erases; compactions = t.compactions + one.compactions; merges = t.merges + one.merges }
-          ≡ tally_of (round w).rounds
+      tally_is : tally_sum t one ≡ tally_of (round w).rounds
       unfolding w
       tally_is =
           let a = apart w in
-          let o : one ≡ tally_of (round (at_rest w.state)).rounds = e ∙ sym (ap (λ (x : Work). tally_of x.rounds) same) in
+          let o : one ≡ tally_of (round (at_rest w.state)).rounds = made_one.counted ∙ sym (ap (λ (x : Work). tally_of x.rounds) same) in
           same_tally _ _ _ _ _ _
           (ap₂ ◌+◌ (ap (λ (x : Tally). x.erases) h.tally) (ap (λ (x : Tally). x.erases) o) ∙ sym a.erases)
           (ap₂ ◌+◌ (ap (λ (x : Tally). x.compactions) h.tally) (ap (λ (x : Tally). x.compactions) o) ∙ sym a.compactions)
           (ap₂ ◌+◌ (ap (λ (x : Tally). x.merges) h.tally) (ap (λ (x : Tally). x.merges) o) ∙ sym a.merges)
 
-      pub making_count : (t.compactions + one.compactions) + (t.merges + one.merges) ≡ count_of t + 1
+      pub making_count : count_of (tally_sum t one) ≡ count_of t + 1
       unfolding w
       making_count =
           let was : count_of t ≡ made w.rounds = ap count_of h.tally in
           ap count_of tally_is ∙ (round_counted w).one ∙ ap (λ (j : ℕ). j + 1) (sym was)
 
-      pub making_more :
-          now ≡ (round (at_rest is)).state →
-          MakingRoom n s now (record { erases = t.erases + one.erases; compactions = t.compactions + one.compactions; merges = t.merges + one.merges })
+      pub making_more : MakingRoom n s now (tally_sum t one)
       unfolding w
-      making_more f =
+      making_more =
           let low : free_of w.state < n = rw (← h.state) short in
-          let there : rounds_for ((t.compactions + one.compactions) + (t.merges + one.merges)) n (at_rest s) ≡ round w =
+          let there : rounds_for (count_of (tally_sum t one)) n (at_rest s) ≡ round w =
           ap (λ (j : ℕ). rounds_for j n (at_rest s)) making_count ∙ rounds_more n (count_of t) (at_rest s) low in
           record {
-            state = f ∙ sym (ap (λ (x : Work). x.state) same) ∙ sym (apart w).state ∙ sym (ap (λ (x : Work). x.state) there);
+            state = made_one.state ∙ sym (ap (λ (x : Work). x.state) same) ∙ sym (apart w).state ∙ sym (ap (λ (x : Work). x.state) there);
             tally = tally_is ∙ sym (ap (λ (x : Work). tally_of x.rounds) there);
             few = omega (arith, making_count, (making_next is t h short).1);
           }
 
   pub making_end :
-      (is : State) (t : Tally) → MakingRoom n s is t → n ≤ free_of is →
-      (t ≡ tally_of (rounds_for (2 * n) n (at_rest s)).rounds) × (is ≡ (rounds_for (2 * n) n (at_rest s)).state)
+      (is : State) (t : Tally) → MakingRoom n s is t → n ≤ free_of is → Made t is (rounds_for (2 * n) n (at_rest s))
   making_end is t h enough =
       let w : rounds_for (2 * n) n (at_rest s) ≡ rounds_for (count_of t) n (at_rest s) = rounds_end n (count_of t) (2 * n) (at_rest s) (rw (← h.state) enough) h.few in
-      (h.tally ∙ sym (ap (λ (x : Work). tally_of x.rounds) w), h.state ∙ sym (ap (λ (x : Work). x.state) w))
+      record { counted = h.tally ∙ sym (ap (λ (x : Work). tally_of x.rounds) w); state = h.state ∙ sym (ap (λ (x : Work). x.state) w) }
 
 -- at most 64 slots are asked for
 pub room_few : (s : State) (n area : ℕ) → CanMakeRoom s n area → n ≤ 64
 room_few s n area can = omega (arith, can.few, can.ready.agrees.pages_are, can.ready.sound.pages_high)
 
--- states of the same measures ask the same of a work area, and leave the same of it
+-- states of the same measures ask the same of a work area
 pub roomy_as : (s is : State) (n m : ℕ) → (is.pages ≡ s.pages) × (is.card.shape ≡ s.card.shape) → m ≡ n → Roomy s n → Roomy is m
 roomy_as s is n m same e h = rw (same.0, ap (λ x. x.size) same.1, e) h
-
-pub beyond_as :
-    (s is : State) (xs ys : List ℕ) → (is.pages ≡ s.pages) × (is.card.shape ≡ s.card.shape) →
-    drop (is.pages * is.card.shape.size) xs ≡ drop (is.pages * is.card.shape.size) ys →
-    drop (s.pages * s.card.shape.size) xs ≡ drop (s.pages * s.card.shape.size) ys
-beyond_as s is xs ys same h =
-    let e : is.pages * is.card.shape.size ≡ s.pages * s.card.shape.size = ap₂ ◌*◌ same.0 (ap (λ x. x.size) same.1) in
-    ap (λ (n : ℕ). drop n xs) (sym e) ∙ h ∙ ap (λ (n : ℕ). drop n ys) e

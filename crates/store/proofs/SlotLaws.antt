@@ -1,15 +1,13 @@
--- What a write to the slots of a block is to the slots that the rules see.
+-- What a write to the slots of a block is to the slots that the rules see, and lists of which one element more is turned at a time.
 use Rattle.std.proofs.Common.{◌≡◌, ℕ, zero, suc, ◌+◌, ◌<◌, ◌≤◌, Bool, cond, List, [], ◌∷◌, ◌++◌, map, length, get_or, take, drop, set, sym, refl, ap, ◌∙◌, arith}
-use Rattle.std.proofs.lemmas.List.{take_more_set, map_push, map-set, length-set, length-map, length-take-le, get_or-map, get_or-take, get_or_default, set-get_or, take_all, drop_all, append-nil}
+use Rattle.std.proofs.lemmas.List.{map-set, length-map, length-take-le, get_or-map, get_or_default, take-map, take_all, drop_all, append-nil}
 use Rattle.std.proofs.lemmas.List.Edits.{map_over_more}
 use Rattle.std.proofs.lemmas.Bool.{eq-eqb, ne_eqb}
-use Rattle.rules.specs.State as rules
 use Rattle.rules.specs.State.{live, dead}
 use Rattle.rules.specs.Moves.{retire, of_block}
-use Rattle.store.specs.declared.slot.Slot.{Slot}
 use Rattle.store.specs.declared.slot.Slot.TheVariants.{Dead}
 use Rattle.store.specs.declared.slot.RegionBlock.{RegionBlock}
-use Rattle.store.specs.View.{slot_of, slots_of, Shaped}
+use Rattle.store.specs.View.{slot_of, slots_of}
 
 -- a write below or above the cut
 pub take_set_in : {X : Type 0} (n i : ℕ) (xs : List X) (x : X) → take n (set xs i x) ≡ set (take n xs) i x
@@ -24,63 +22,58 @@ take_set_in (suc n) (suc i) (y ∷ xs) x = ap (λ ys. y ∷ ys) (take_set_in n i
 
 -- ---- a block of slots
 
-pub slots_length : (k : RegionBlock) → Shaped k → length (slots_of k) ≡ k.used
-slots_length k s =
-    length-map (take k.used k.slots) slot_of ∙ length-take-le k.used k.slots (omega (arith, s.wide, s.short))
+-- as many as are used
+pub used_length : (k : RegionBlock) → length (take k.used k.slots) ≡ k.used
+used_length k = length-take-le k.used k.slots (omega arith)
 
--- the slot that was read, as the rules see it
-pub slot_at :
-    (k : RegionBlock) (i : ℕ) (d x : Slot) → Shaped k → i < k.used → get_or k.slots i d ≡ x → get_or (slots_of k) i dead ≡ slot_of x
-slot_at k i d x s h e =
-    let n = length-take-le k.used k.slots (omega (arith, s.wide, s.short)) in
-    get_or-map slot_of (take k.used k.slots) i d dead (omega arith) ∙ ap slot_of (get_or-take k.used k.slots i d h ∙ e)
+-- the rules see as many
+pub slots_length : (k : RegionBlock) → length (slots_of k) ≡ k.used
+slots_length k = length-map (take k.used k.slots) slot_of ∙ used_length k
 
-pub shaped_set : (k : RegionBlock) (i : ℕ) (x : Slot) (n : ℕ) → Shaped k → n ≤ 64 → Shaped (record { slots = set k.slots i x; used = n })
-shaped_set k i x n s h = record { wide = length-set k.slots i x ∙ s.wide; short = h }
-
-pub appended_slots :
-    (k : RegionBlock) (x : Slot) → Shaped k → k.used < 64 →
-    slots_of (record { slots = set k.slots k.used x; used = k.used + 1 }) ≡ slots_of k ++ (slot_of x ∷ [])
-appended_slots k x s h =
-    ap (map slot_of) (take_more_set k.slots k.used x (omega (arith, s.wide))) ∙ map_push slot_of (take k.used k.slots) x
-
+-- a slot that is marked as dead
 pub marked_slots :
-    (k : RegionBlock) (i : ℕ) → slots_of (record { slots = set k.slots i Dead; used = k.used }) ≡ set (slots_of k) i dead
+    (k : RegionBlock) (i : ℕ) → map slot_of (take k.used (set k.slots i Dead)) ≡ set (slots_of k) i dead
 marked_slots k i =
     ap (map slot_of) (take_set_in k.used i k.slots Dead) ∙ map-set slot_of (take k.used k.slots) i Dead
 
--- ---- slots that die one after the other
+-- ---- elements that are turned one after the other
 
 -- the first i of xs are turned, and the rest are as they were
 abbrev pub turned_below : {X : Type 0} → (X → X) → ℕ → List X → List X
 turned_below f i xs = map f (take i xs) ++ drop i xs
 
-module _ {X : Type 0} (f : X → X) (xs ys : List X) (i : ℕ) (d : X) where
-  -- one more is written
-  pub turned_more : i < length xs → i < length ys → ys ≡ turned_below f i xs → set ys i (f (get_or ys i d)) ≡ turned_below f (i + 1) xs
-  turned_more h l e = map_over_more f xs ys i (get_or ys i d) h e (get_or_default ys i d (get_or ys i d) l)
-
-  -- one more is as it should be
-  pub turned_same : i < length xs → i < length ys → ys ≡ turned_below f i xs → f (get_or ys i d) ≡ get_or ys i d → ys ≡ turned_below f (i + 1) xs
-  turned_same h l e q = sym (ap (set ys i) q ∙ set-get_or ys i d) ∙ turned_more h l e
-
-  pub turned_all : length xs ≤ i → ys ≡ turned_below f i xs → ys ≡ map f xs
-  turned_all h e =
-      e
-      ∙ ap (λ (zs : List X). map f zs ++ drop i xs) (take_all i xs h)
-      ∙ ap (λ (zs : List X). map f xs ++ zs) (drop_all i xs h)
-      ∙ append-nil (map f xs)
-
-pub turned_length : {X : Type 0} (f : X → X) (i : ℕ) (xs : List X) → length (turned_below f i xs) ≡ length xs
+turned_length : {X : Type 0} (f : X → X) (i : ℕ) (xs : List X) → length (turned_below f i xs) ≡ length xs
 turned_length f zero xs = refl
 turned_length f (suc i) [] = refl
 turned_length f (suc i) (x ∷ xs) = ap suc (turned_length f i xs)
 
--- a block whose slots were turned uses as many as before
-pub used_same :
-    (f : rules.Slot → rules.Slot) (i : ℕ) (a b : RegionBlock) → Shaped a → Shaped b → slots_of b ≡ turned_below f i (slots_of a) → b.used ≡ a.used
-used_same f i a b s t e =
-    sym (slots_length b t) ∙ ap length e ∙ turned_length f i (slots_of a) ∙ slots_length a s
+-- the elements `is` are those of `was`, of which the first i are turned, as g sees them
+module _ {X Y : Type 0} (g : X → Y) (f : Y → Y) (i : ℕ) (was is : List X) (so_far : map g is ≡ turned_below f i (map g was)) where
+  as_many : length is ≡ length was
+  as_many = sym (length-map is g) ∙ ap length so_far ∙ turned_length f i (map g was) ∙ length-map was g
+
+  -- one more is turned
+  pub turned_more : (x z : X) → i < length was → g x ≡ f (g (get_or is i z)) → map g (set is i x) ≡ turned_below f (i + 1) (map g was)
+  turned_more x z h e =
+      let in_is : i < length (map g is) = omega (arith, as_many, length-map is g) in
+      let in_was : i < length (map g was) = omega (arith, length-map was g) in
+      let v : Y = get_or (map g is) i (g z) in
+      let at : v ≡ g (get_or is i z) = get_or-map g is i z (g z) (omega (arith, as_many)) in
+      map-set g is i x
+      ∙ ap (set (map g is) i) (e ∙ ap f (sym at))
+      ∙ map_over_more f (map g was) (map g is) i v in_was so_far (get_or_default (map g is) i (g z) v in_is)
+
+  -- all are, and so are the first n
+  pub turned_all : (n : ℕ) → length was ≤ i → map g (take n is) ≡ map f (map g (take n was))
+  turned_all n h =
+      let whole : map g is ≡ map f (map g was) =
+      so_far
+      ∙ ap (λ (zs : List Y). map f zs ++ drop i (map g was)) (take_all i (map g was) (omega (arith, length-map was g)))
+      ∙ ap (λ (zs : List Y). map f (map g was) ++ zs) (drop_all i (map g was) (omega (arith, length-map was g)))
+      ∙ append-nil (map f (map g was)) in
+      sym (take-map g n is) ∙ ap (take n) whole ∙ take-map f n (map g was) ∙ ap (map f) (take-map g n was)
+
+-- ---- slots that die
 
 pub retire_own : (d e j : ℕ) → e ≡ d → retire (of_block d) (live e j) ≡ dead
 unfolding retire

@@ -1,20 +1,17 @@
 -- What reads and writes of the tables are to the rules' maps.
-use Rattle.std.proofs.Common.{◌≡◌, ℕ, ◌-◌, ◌<◌, ◌≤◌, List, [], map, length, get_or, take, set, replicate, ap, ◌∙◌, ap₂, arith}
+use Rattle.std.proofs.Common.{◌≡◌, ℕ, ◌-◌, ◌<◌, ◌≤◌, List, [], map, length, get_or, take, set, replicate, sym, ap, ◌∙◌, ap₂, arith}
 use lib.LanesLaws.{map-replicate}
-use Rattle.std.proofs.lemmas.List.{map-set, get_or-map, get_or-take, length-map, length-take-le, take-replicate, get_or-replicate}
-use Rattle.std.proofs.ByRecursion.{All-from_get_or}
+use Rattle.std.proofs.lemmas.List.{map-set, get_or-map, get_or-take, length-map, length-take-le, take-replicate}
 use Rattle.flash.specs.Meaning.{Card}
 use Rattle.rules.specs.declared.plan.Plan.{Plan}
 use Rattle.rules.specs.declared.pages.PageSet.{PageSet}
 use Rattle.rules.specs.State as rules
+use Rattle.rules.specs.Ready.{Orderly}
 use Rattle.rules.proofs.OrderlyLaws.{orderly_empty}
+use Rattle.store.specs.declared.slot.Slot.{Slot}
 use Rattle.store.specs.declared.slot.RegionBlock.{RegionBlock}
-use Rattle.store.specs.View.{slots_of, table_of, sets_of, Shaped, Whole}
+use Rattle.store.specs.View.{slot_of, slots_of, table_of, sets_of}
 use Rattle.store.proofs.SlotLaws.{take_set_in}
-
--- what stands for a block past the end of a table
-abbrev pub no_block : RegionBlock
-no_block = record { slots = []; used = 0 }
 
 -- ---- states
 
@@ -29,14 +26,20 @@ same_maps p n res c sets sets' t t' e f = ap₂ (state_by p n res c) e f
 
 -- ---- the page map
 
+-- the used slots of a block that was read, as the rules see them
+pub read_row :
+    (t : List RegionBlock) (r : ℕ) (k : RegionBlock) (xs : List Slot) → r < length t → k ≡ get_or t r k → xs ≡ take k.used k.slots →
+    get_or (map slots_of t) r [] ≡ map slot_of xs
+read_row t r k xs h is used = get_or-map slots_of t r k [] h ∙ ap slots_of (sym is) ∙ ap (map slot_of) (sym used)
+
 module _ (p : Plan) (t : List RegionBlock) where
   pub table_length : p.region ≤ length t → length (table_of p t) ≡ p.region
   table_length l = length-map (take p.region t) slots_of ∙ length-take-le p.region t l
 
-  pub table_at : (r : ℕ) → r < p.region → p.region ≤ length t → get_or (table_of p t) r [] ≡ slots_of (get_or t r no_block)
-  table_at r h l =
+  pub table_at : (r : ℕ) (z : RegionBlock) → r < p.region → p.region ≤ length t → get_or (table_of p t) r [] ≡ slots_of (get_or t r z)
+  table_at r z h l =
       let n = length-take-le p.region t l in
-      get_or-map slots_of (take p.region t) r no_block [] (omega arith) ∙ ap slots_of (get_or-take p.region t r no_block h)
+      get_or-map slots_of (take p.region t) r z [] (omega arith) ∙ ap slots_of (get_or-take p.region t r z h)
 
   pub table_set : (r : ℕ) (k : RegionBlock) → table_of p (set t r k) ≡ set (table_of p t) r (slots_of k)
   table_set r k = ap (map slots_of) (take_set_in p.region r t k) ∙ map-set slots_of (take p.region t) r k
@@ -58,7 +61,7 @@ module _ (p : Plan) (sets : List PageSet) where
 
 -- ---- maps without pages
 
-module _ (p : Plan) (e : RegionBlock) (blank : slots_of e ≡ []) (shaped : Shaped e) where
+module _ (p : Plan) (e : RegionBlock) (blank : slots_of e ≡ []) where
   pub empty_sets : p.data ≤ 128 → sets_of p (replicate 128 (record { 0 = 0 })) ≡ replicate p.data 0
   empty_sets h = ap (map number_of) (take-replicate p.data 128 (record { 0 = 0 }) h) ∙ map-replicate number_of p.data (record { 0 = 0 })
 
@@ -68,11 +71,7 @@ module _ (p : Plan) (e : RegionBlock) (blank : slots_of e ≡ []) (shaped : Shap
       ∙ map-replicate slots_of p.region e
       ∙ ap (replicate p.region) blank
 
-  pub whole_empty :
+  pub orderly_blank :
       (n : ℕ) → p.data ≤ 128 → 2 ≤ p.region → p.region ≤ 16 →
-      Whole p n (replicate 128 (record { 0 = 0 })) (replicate 16 e) (p.region - 1)
-  whole_empty n a b h =
-      record {
-        orderly = rw (empty_sets a, empty_table h) (orderly_empty p n b);
-        shaped = All-from_get_or Shaped (replicate 16 e) e (λ i l. rw (get_or-replicate 16 i e e l) shaped);
-      }
+      Orderly p n (sets_of p (replicate 128 (record { 0 = 0 }))) (table_of p (replicate 16 e)) (p.region - 1)
+  orderly_blank n a b h = rw (empty_sets a, empty_table h) (orderly_empty p n b)

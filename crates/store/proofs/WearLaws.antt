@@ -1,42 +1,50 @@
 -- The scan for worn blocks, and the blocks that a format clears, one after the other.
-use Rattle.std.proofs.Common.{◌≡◌, ℕ, zero, suc, ◌+◌, ◌<◌, ◌≤◌, Bool, true, false, cond, ltb, sym, ap, ◌∙◌, inl, inr, add-one, arith}
-use Rattle.std.proofs.lemmas.Bool.{cases_eq, lt-ltb, le-ltb}
-use Rattle.std.proofs.lemmas.Bool.Decides.{nat_tests}
+use Rattle.std.proofs.Common.{List, [], ◌∷◌, ◌++◌, ◌||◌, refl, ◌≡◌, ℕ, zero, suc, ◌+◌, ◌<◌, ◌≤◌, Bool, true, false, cond, ltb, sym, ap, ◌∙◌, add-one, arith}
+use Rattle.std.proofs.lemmas.List.{map-id}
+use Rattle.std.proofs.lemmas.List.FromFn.{map-range_with_len_more}
+use Rattle.std.specs.List.{list_any, range_with_len}
 use Rattle.flash.specs.Meaning.{Card, block_count, floor_at, erase_count_at}
-use Rattle.flash.proofs.RefusalLaws.{can_erase}
 use Rattle.rules.specs.Calls.{near_worn, cleared_below, clearing_below}
 use Rattle.rules.specs.Moves.{cleared, clearing}
-use Rattle.rules.proofs.ReadyErases.{far_from_worn, clear_lasts, cleared_below_more, clearing_below_more}
+use Rattle.rules.proofs.ReadyErases.{far_from_worn, can_clear, cleared_below_more, clearing_below_more}
 
--- one block more that is far from worn
-pub far_more :
-    (n : ℕ) (c : Card) → near_worn n c ≡ false → erase_count_at c n + 128 ≤ c.shape.endurance → near_worn (n + 1) c ≡ false
-unfolding near_worn
-far_more n c e h =
-    ap (λ (k : ℕ). near_worn k c) (add-one n)
-    ∙ ap (λ (t : Bool). cond t true (near_worn n c)) (le-ltb c.shape.endurance (erase_count_at c n + 128) h) ∙ e
+-- ---- the scan for worn blocks
 
--- one block that is near
-pub near_found :
-    (n : ℕ) (c : Card) (b : ℕ) → b < n → c.shape.endurance < erase_count_at c b + 128 → near_worn n c ≡ true
+or_none : (a : Bool) → (a || false) ≡ cond a true false
+or_none true = refl
+or_none false = refl
+
+or_later : (a b l : Bool) → (a || cond b true l) ≡ cond b true (a || l)
+or_later true true l = refl
+or_later true false l = refl
+or_later false true l = refl
+or_later false false l = refl
+
+-- one element more
+any_push : (p : ℕ → Bool) (xs : List ℕ) (y : ℕ) → list_any p (xs ++ (y ∷ [])) ≡ cond (p y) true (list_any p xs)
+any_push p [] y = or_none (p y)
+any_push p (x ∷ xs) y = ap (λ (b : Bool). p x || b) (any_push p xs y) ∙ or_later (p x) (p y) (list_any p xs)
+
+range_more : (n : ℕ) → range_with_len 0 (suc n) ≡ range_with_len 0 n ++ (n ∷ [])
+range_more n =
+    ap (range_with_len 0) (sym (add-one n)) ∙ sym (map-id (range_with_len 0 (n + 1)))
+    ∙ map-range_with_len_more (λ k. k) 0 n n (omega arith)
+    ∙ ap (λ (xs : List ℕ). xs ++ (n ∷ [])) (map-id (range_with_len 0 n))
+
+-- some block below n is near
+pub near_any : (c : Card) (n : ℕ) → list_any (λ b. ltb c.shape.endurance (erase_count_at c b + 128)) (range_with_len 0 n) ≡ near_worn n c
 unfolding near_worn
-near_found zero c b l h = absurd (omega arith)
-near_found (suc n) c b l h =
-    elim (cases_eq b n) [
-      | inl q ↦
-          let same : erase_count_at c b ≡ erase_count_at c n = ap (erase_count_at c) q in
-          ap (λ (t : Bool). cond t true (near_worn n c)) (lt-ltb c.shape.endurance (erase_count_at c n + 128) (omega arith))
-      | inr ne ↦
-          let rest = near_found n c b (omega arith) h in
-          grind (arith, nat_tests)
-    ]
+near_any c zero = refl
+near_any c (suc n) =
+    let near : ℕ → Bool = λ b. ltb c.shape.endurance (erase_count_at c b + 128) in
+    ap (list_any near) (range_more n) ∙ any_push near (range_with_len 0 n) n ∙ ap (λ (b : Bool). cond (near n) true b) (near_any c n)
 
 -- the next block can be cleared
 pub clears_next :
     (c k : Card) (n : ℕ) → n < block_count c → near_worn (block_count c) c ≡ false → k ≡ cleared_below n c →
     (n < block_count k) × (erase_count_at k n < k.shape.endurance)
 clears_next c k n h w e =
-    let can = can_erase (cleared_below n c) n (clear_lasts n c h (omega (arith, far_from_worn (block_count c) c w n h))) in
+    let can = can_clear n c h (omega (arith, far_from_worn (block_count c) c w n h)) in
     rw e (can.block, can.below)
 
 clearing_low : (t : Bool) → cond t 1 0 ≤ 1

@@ -1,16 +1,19 @@
 -- What the calls of a store promise: as the rules have it for a formatted store, and number 6 for any other.
-use Rattle.std.specs.Prelude.{◌≡◌, ℕ, zero, suc, ◌+◌, ◌*◌, Bool, true, false, cond, ◌&&◌, List, [], ◌++◌, length, drop, replicate, Some, None, Ok, Err, Option, Result, ◌==◌, nat_le, nat_lt, slice_index_or}
+use Rattle.std.specs.Prelude.{◌≡◌, ℕ, zero, suc, ◌+◌, ◌*◌, Bool, true, cond, ◌&&◌, List, [], ◌++◌, length, drop, replicate, Some, None, Ok, Err, Option, Result, ◌==◌, nat_le, nat_lt, slice_index_or}
 use Rattle.flash.specs.Meaning.{Card, block_count, floor_at}
 use Rattle.rules.specs.declared.plan.Plan.{Plan}
+use Rattle.rules.specs.Ready.{Ready}
 use Rattle.rules.specs.State.{State, held, live_of, dead_of, free_of}
-use Rattle.rules.specs.Calls.{Call, read, Report, Answer, refused, done, told, Few, step, format_number, clearing_below, formatted}
+use Rattle.rules.specs.Calls.{Call, read, Report, Answer, refused, done, told, Few, step, when_bad, format_number, clearing_below, formatted}
 use Rattle.rules.proofs.Steps.{number_for}
+use Rattle.store.specs.declared.maps.Maps.{Maps}
 use Rattle.store.specs.declared.refusal.StoreRefusal.{StoreRefusal}
 use Rattle.store.specs.declared.region.Region.{Region}
 use Rattle.store.specs.declared.report.Report.{Report as Told}
 use Rattle.store.specs.declared.slots.SlotCounts.{SlotCounts}
 use Rattle.store.specs.Numbers.{number_of}
 use Rattle.store.specs.Places.{way_of}
+use Rattle.store.specs.State.{state_of}
 
 -- ---- the state of a store
 
@@ -25,9 +28,14 @@ agreeing s =
     (s.pages == s.card.shape.pages) && nat_le (s.plan.data + s.plan.region) (block_count s.card) && floors_agree s s.plan.region
 
 -- the state of a store that is formatted and whose flash is as its maps say; any other has none
-abbrev pub state_in : Bool → State → Option State
-state_in false s = None
-state_in true s = cond (agreeing s) (Some s) None
+abbrev pub state_in : Option Maps → Card → Option State
+state_in None c = None
+state_in (Some m) c = cond (agreeing (state_of m c)) (Some (state_of m c)) None
+
+-- s is the state of a store, and every call can be carried out
+pub record InForce (o : Option State) (s : State) : Type 0 where
+  pub is : o ≡ Some s
+  pub ready : Ready s
 
 -- ---- calls
 
@@ -46,10 +54,25 @@ abbrev pub number_in : Option State → Call → ℕ
 number_in None call = 6
 number_in (Some s) call = number_for s call
 
+-- a call is accepted in state s
+pub record Accepted (o : Option State) (call : Call) (s : State) : Type 0 where
+  pub in_force : InForce o s
+  pub passed : number_for s call ≡ 0
+
 -- the tests of a call: all are passed, or the first that fails tells its number
-abbrev pub CheckedAs : {T : Type 0} → Result T StoreRefusal → Bool → State → Call → Type 0
-CheckedAs (Ok x) f s call = (state_in f s ≡ Some s) × (number_for s call ≡ 0)
-CheckedAs (Err e) f s call = number_in (state_in f s) call ≡ number_of e
+abbrev pub CheckedAs : {T : Type 0} → Result T StoreRefusal → Option State → Call → Type 0
+CheckedAs (Ok x) o call = (s : State) × Accepted o call s
+CheckedAs (Err e) o call = number_in o call ≡ number_of e
+
+-- the number with which a call is refused for its block, 0 if it is not
+abbrev pub block_number : Option State → ℕ → ℕ
+block_number None d = 6
+block_number (Some s) d = when_bad (nat_le s.plan.data d) 7 0
+
+-- the same for its block and its page
+abbrev pub page_number : Option State → ℕ → ℕ → ℕ
+page_number None d i = 6
+page_number (Some s) d i = when_bad (nat_le s.plan.data d) 7 (when_bad (nat_le s.pages i) 8 0)
 
 -- a report, as the rules have it
 abbrev pub way_in : Option Region → ℕ
@@ -68,6 +91,11 @@ AnsweredAs (Err e) s call = answer_in s call ≡ refused (number_of e)
 abbrev pub FewAs : Result Told StoreRefusal → ℕ → Type 0
 FewAs (Ok r) n = Few n (done (report_of r))
 FewAs (Err e) n = Unit {0}
+
+-- what a call means was done: the report tells it, and the state is the one that it leaves
+pub record CarriedOut (r : Told) (is : State) (meant : Answer × State) : Type 0 where
+  pub tells : done (report_of r) ≡ meant.0
+  pub leaves : is ≡ meant.1
 
 -- a call that has nothing to tell is carried out or refused
 abbrev pub DoneAs : {T : Type 0} → Result T StoreRefusal → Option State → Call → Type 0

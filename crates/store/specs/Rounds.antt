@@ -1,7 +1,7 @@
 -- What rounds of garbage collection ask, and how the code counts them.
-use Rattle.std.specs.Prelude.{◌≡◌, ℕ, ◌*◌, ◌<◌, ◌≤◌, false, List}
+use Rattle.std.specs.Prelude.{◌≡◌, ℕ, ◌+◌, ◌*◌, ◌<◌, ◌≤◌, false, List}
 use Rattle.rules.specs.Calls.{near_worn, watched}
-use Rattle.rules.specs.Moves.{Round, erases_in, compactions_in, merges_in}
+use Rattle.rules.specs.Moves.{Round, Work, erases_in, compactions_in, merges_in}
 use Rattle.rules.specs.Ready.{Ready}
 use Rattle.rules.specs.State.{State, capacity}
 use Rattle.rules.proofs.Accepted.{CanFlush}
@@ -10,6 +10,15 @@ use Rattle.store.specs.declared.tally.Tally.{Tally}
 -- the counts of a list of rounds
 abbrev pub tally_of : List Round → Tally
 tally_of rs = record { erases = erases_in rs; compactions = compactions_in rs; merges = merges_in rs }
+
+-- what two tallies count together
+abbrev pub tally_sum : Tally → Tally → Tally
+tally_sum a b = record { erases = a.erases + b.erases; compactions = a.compactions + b.compactions; merges = a.merges + b.merges }
+
+-- rounds that were made: the tally counts them, and the state is the one to which they lead
+pub record Made (tally : Tally) (is : State) (work : Work) : Type 0 where
+  pub counted : tally ≡ tally_of work.rounds
+  pub state : is ≡ work.state
 
 -- a work area of so many bytes holds the pages of a block
 abbrev pub Roomy : State → ℕ → Type 0

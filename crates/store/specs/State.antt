@@ -14,7 +14,3 @@ state_of m c = state_with m.plan m.pages m.sets m.table m.reserve c
 abbrev pub empty_maps : Plan → ℕ → Card → State
 empty_maps p pages c =
     record { plan = p; pages = pages; card = c; sets = replicate p.data 0; table = replicate p.region []; reserve = p.region - 1 }
-
--- the least plan
-abbrev pub least_plan : Plan
-least_plan = record { «data» = 1; region = 2; threshold = 0; idle = 0 }

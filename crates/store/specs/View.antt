@@ -1,12 +1,10 @@
--- How the store's tables are read as the rules' maps, and what holds of them.
-use Rattle.std.specs.Prelude.{◌≡◌, ℕ, ◌≤◌, List, map, length, take}
-use Rattle.std.specs.List.{AllByRecursion}
+-- How the store's tables are read as the rules' maps.
+use Rattle.std.specs.Prelude.{ℕ, List, map, take}
 use Rattle.flash.specs.Meaning.{Card}
 use Rattle.rules.specs.declared.plan.Plan.{Plan}
 use Rattle.rules.specs.declared.pages.PageSet.{PageSet}
 use Rattle.rules.specs.State as rules
 use Rattle.rules.specs.State.{live, dead}
-use Rattle.rules.specs.Ready.{Orderly}
 use Rattle.store.specs.declared.slot.Slot.{Slot}
 use Rattle.store.specs.declared.slot.Slot.TheVariants.{Live, Dead}
 use Rattle.store.specs.declared.slot.RegionBlock.{RegionBlock}
@@ -32,13 +30,3 @@ sets_of p sets = map (λ (s : PageSet). s.0) (take p.data sets)
 abbrev pub state_with : Plan → ℕ → List PageSet → List RegionBlock → ℕ → Card → rules.State
 state_with p pages sets table reserve c =
     record { plan = p; pages = pages; card = c; sets = sets_of p sets; table = table_of p table; reserve = reserve }
-
--- a block with room for 64 slots, of which no more are in use
-pub record Shaped (k : RegionBlock) : Type 0 where
-  pub wide : length k.slots ≡ 64
-  pub short : k.used ≤ 64
-
--- maps that are orderly, in tables of the right shape
-pub record Whole (p : Plan) (pages : ℕ) (sets : List PageSet) (table : List RegionBlock) (reserve : ℕ) : Type 0 where
-  pub orderly : Orderly p pages (sets_of p sets) (table_of p table) reserve
-  pub shaped : AllByRecursion Shaped table

@@ -1,7 +1,7 @@
-ghost use Rattle.std.specs.Prelude.{◌≡◌, length, MatchResult};
+ghost use Rattle.std.specs.Prelude.{◌≡◌, length, IsOkAnd};
 ghost use Rattle.rules.specs.Moves.{kept, copied};
 ghost use Rattle.store.specs.Moves.{CanCopy};
-ghost use Rattle.store.specs.View.{slots_of, Shaped};
+ghost use Rattle.store.specs.View.{slots_of};
 
 use crate::slot::{RegionBlock, Slot};
 use flash::block::PhysicalBlock;
@@ -16,13 +16,12 @@ pub(crate) fn copy_live<F: Flash>(
     to: PhysicalBlock,
     page: &mut [u8],
 ) -> Result<RegionBlock, Refusal>
-    requires { (Shaped block.now) × (CanCopy (F.card flash.old) block.now.used from.0 to.0 (length page.old)) }
-    ensures { MatchResult result (λ k. Shaped k × ((slots_of k ≡ kept (slots_of block.now)) × (F.card flash.new ≡ copied from.0 to.0 (slots_of block.now) 0 0 (F.card flash.old)))) (λ _. ⊥) }
+    requires { CanCopy (F.card flash.old) block.now.used from.0 to.0 (length page.old) }
+    ensures { IsOkAnd result (λ k. (slots_of k ≡ kept (slots_of block.now)) × (F.card flash.new ≡ copied from.0 to.0 (slots_of block.now) 0 0 (F.card flash.old))) }
 {
     let mut copies = RegionBlock::empty();
-    for slot in 0..block.used {
-        let entry = block.slots[slot];
-        if let Slot::Live(owner, number) = entry {
+    for (slot, entry) in block.used_slots().iter().enumerate() {
+        if let Slot::Live(owner, number) = *entry {
             flash.read(from, slot, page)?;
             flash.program(to, copies.used, page)?;
             copies.append(owner, number);

@@ -13,14 +13,10 @@ impl Counted for RegionBlock {
     ghost tally = { λ k. deads (slots_of k) };
 
     fn count(&self) -> usize {
-        let mut dead = 0;
-        for i in 0..self.used.min(64) {
-            let slot = self.slots[i];
-            if let Slot::Dead = slot {
-                dead += 1;
-            }
-        }
-        dead
+        self.used_slots()
+            .iter()
+            .filter(|slot| **slot == Slot::Dead)
+            .count()
     }
 }
 
@@ -29,22 +25,14 @@ impl Maps {
     fn used(&self) -> usize
         ensures { result ≡ sum_by length (table_of self.now.plan self.now.table) }
     {
-        let mut used = 0;
-        for place in 0..self.plan.region as usize {
-            used += self.table[place].used;
-        }
-        used
+        self.rows().iter().map(|row| row.used).sum()
     }
 
     // The dead slots among them.
     pub(crate) fn dead(&self) -> usize
         ensures { (c : Card) → result ≡ dead_of (state_of self.now c) }
     {
-        let mut dead = 0;
-        for place in 0..self.plan.region as usize {
-            dead += self.table[place].count();
-        }
-        dead
+        self.rows().iter().map(|row| row.count()).sum()
     }
 
     // The live slots among them.

@@ -1,7 +1,6 @@
-ghost use Rattle.std.specs.Prelude.{◌≡◌, true, is_err};
+ghost use Rattle.std.specs.Prelude.{◌≡◌, OnErr};
 ghost use Rattle.rules.specs.Calls.{discard as discard_call};
 ghost use Rattle.store.specs.Calls.{state_in, state_after, DoneAs};
-ghost use Rattle.store.specs.State.{state_of};
 
 use crate::refusal::StoreRefusal;
 use crate::store::Store;
@@ -12,12 +11,15 @@ use rules::pages::PageSet;
 impl<F: Flash> Store<F> {
     // Drops those of the named pages that are held.
     pub fn discard(&mut self, block: LogicalBlock, pages: PageSet) -> Result<(), StoreRefusal>
-        ensures tells { DoneAs result (state_in self.old.formatted (state_of self.old.maps (F.card self.old.flash))) (discard_call block.0 pages.0) }
-        ensures leaves { state_in self.new.formatted (state_of self.new.maps (F.card self.new.flash)) ≡ state_after (state_in self.old.formatted (state_of self.old.maps (F.card self.old.flash))) (discard_call block.0 pages.0) }
-        ensures refused { is_err result ≡ true → self.new ≡ self.old }
+        ensures tells { DoneAs result (state_in self.old.maps (F.card self.old.flash)) (discard_call block.0 pages.0) }
+        ensures leaves { state_in self.new.maps (F.card self.new.flash) ≡ state_after (state_in self.old.maps (F.card self.old.flash)) (discard_call block.0 pages.0) }
+        ensures refused { OnErr result (self.new ≡ self.old) }
     {
         self.check_pages(block, pages)?;
-        self.maps.discard(block, pages);
+        let Some(maps) = &mut self.maps else {
+            unreachable!()
+        };
+        maps.discard(block, pages);
         Ok(())
     }
 }

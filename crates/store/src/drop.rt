@@ -28,14 +28,17 @@ impl Maps {
             }
             Region::PageMapped => {
                 let row = region_place(self.plan, block);
-                self.table[row].mark(page);
+                // the table is lent first: no block is lent straight out of maps whose ghost fields cite it
+                let table = &mut self.table;
+                table[row].mark(page);
             }
         }
     }
 
     // The pages of a set are held no more.
     pub(crate) fn discard(&mut self, block: LogicalBlock, pages: PageSet)
-        requires { (block.0 < self.old.plan.data) × (pages.0 < 2 ^ self.old.pages) }
+        requires a_block { block.0 < self.old.plan.data }
+        requires fits { pages.0 < 2 ^ self.old.pages }
         ensures { (c : Card) → state_of self.new c ≡ dropped_from (state_of self.old c) block.0 (has_page pages.0) }
     {
         for page in 0..self.pages {

@@ -1,8 +1,7 @@
-ghost use Rattle.std.specs.Prelude.{◌≡◌, true, is_err};
+ghost use Rattle.std.specs.Prelude.{◌≡◌, OnErr};
 ghost use Rattle.rules.specs.Calls.{formatted as state_from};
 ghost use Rattle.rules.specs.Law.{Kept, Lasts};
 ghost use Rattle.store.specs.Calls.{state_in, state_formatted, FormatAs, Once};
-ghost use Rattle.store.specs.State.{state_of};
 
 use crate::clear::clear_below;
 use crate::maps::Maps;
@@ -20,10 +19,10 @@ impl<F: Flash> Store<F> {
     // refused for wear as long as every block has the ceiling and 128 erases to spare (`lasts`).
     pub fn format(&mut self, plan: Plan) -> Result<usize, StoreRefusal>
         ensures tells { FormatAs result plan (F.card self.old.flash) }
-        ensures leaves { state_in self.new.formatted (state_of self.new.maps (F.card self.new.flash)) ≡ state_formatted result plan (F.card self.old.flash) (state_in self.old.formatted (state_of self.old.maps (F.card self.old.flash))) }
+        ensures leaves { state_in self.new.maps (F.card self.new.flash) ≡ state_formatted result plan (F.card self.old.flash) (state_in self.old.maps (F.card self.old.flash)) }
         ensures keeps { Once result (Kept (state_from plan (F.card self.old.flash))) }
         ensures lasts { Once result (Lasts (state_from plan (F.card self.old.flash))) }
-        ensures refused { is_err result ≡ true → self.new ≡ self.old }
+        ensures refused { OnErr result (self.new ≡ self.old) }
     {
         let geometry = self.flash.geometry();
         if !plan.within_limits(geometry.pages) {
@@ -36,10 +35,9 @@ impl<F: Flash> Store<F> {
             return Err(StoreRefusal::NearWorn);
         }
         let Ok(erases) = clear_below(&mut self.flash, plan.data + plan.region) else {
-            unreachable()
+            unreachable!()
         };
-        self.maps = Maps::formatted(plan, geometry.pages);
-        self.formatted = true;
+        self.maps = Some(Maps::formatted(plan, geometry.pages));
         Ok(erases)
     }
 }

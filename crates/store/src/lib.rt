@@ -2,7 +2,6 @@
 #![tactic(auto)]
 
 mod append;
-mod area;
 mod blocks;
 mod checks;
 mod clear;
@@ -14,6 +13,7 @@ mod drop;
 pub mod flush;
 pub mod format;
 mod gather;
+mod group;
 pub mod idle;
 mod locate;
 mod maps;

@@ -12,30 +12,29 @@ use flash::block::PhysicalBlock;
 use rules::block::LogicalBlock;
 
 impl Maps {
-    // Where a page of a data block is held: the region, the flash block and its page.
+    // Where a page of a data block is held: the region, the flash block and its page. A rule of the project: a triple.
+    // That the block is one of the plan's is asked wherever one is given: a block knows no plan.
     pub(crate) fn locate(
         &self,
         block: LogicalBlock,
         page: usize,
     ) -> Option<(Region, PhysicalBlock, usize)>
-        requires { (block.0 < self.now.plan.data) × (page < self.now.pages) }
+        requires a_block { block.0 < self.now.plan.data }
+        requires a_page { page < self.now.pages }
         ensures inside { Found result self.now.plan self.now.pages self.now.table }
         ensures held { (c : Card) → found_as result ≡ held_at (state_of self.now c) block.0 page }
     {
-        let valid = self.sets[block.0 as usize];
-        if valid.has(page) {
+        if self.sets[block.0 as usize].has(page) {
             return Some((Region::BlockMapped, data_block(block), page));
         }
+        let wanted = Slot::Live(block, page as u8);
         let mut found = None;
-        'search: for place in 0..self.plan.region as usize {
-            let row = &self.table[place];
-            for slot in 0..row.used {
-                let entry = row.slots[slot];
-                if let Slot::Live(owner, number) = entry {
-                    if owner == block && number as usize == page {
-                        found = Some((Region::PageMapped, region_block(self.plan, place), slot));
-                        break 'search;
-                    }
+        // a rule of the project: two nested loops, left by the label at the live slot
+        'search: for (place, row) in self.rows().iter().enumerate() {
+            for (slot, entry) in row.used_slots().iter().enumerate() {
+                if *entry == wanted {
+                    found = Some((Region::PageMapped, region_block(self.plan, place), slot));
+                    break 'search;
                 }
             }
         }

@@ -1,6 +1,5 @@
 ghost use Rattle.std.specs.Prelude.{◌≡◌};
 ghost use Rattle.store.specs.Calls.{state_in, ReadAs};
-ghost use Rattle.store.specs.State.{state_of};
 
 use crate::refusal::StoreRefusal;
 use crate::region::Region;
@@ -16,25 +15,17 @@ impl<F: Flash> Store<F> {
         page: usize,
         into: &mut [u8],
     ) -> Result<Region, StoreRefusal>
-        ensures { ReadAs result (state_in self.now.formatted (state_of self.now.maps (F.card self.now.flash))) block.0 page into.old into.new }
+        ensures { ReadAs result (state_in self.now.maps (F.card self.now.flash)) block.0 page into.old into.new }
     {
-        if !self.is_ready() {
-            return Err(StoreRefusal::Unformatted);
-        }
-        if block.0 as u16 >= self.maps.plan.data {
-            return Err(StoreRefusal::NoSuchBlock);
-        }
-        if page >= self.maps.pages {
-            return Err(StoreRefusal::NoSuchPage);
-        }
+        let maps = self.check_page(block, page)?;
         if into.len() != self.flash.geometry().size {
             return Err(StoreRefusal::WrongBuffer);
         }
-        let Some((region, held_in, held_at)) = self.maps.locate(block, page) else {
+        let Some((region, held_in, held_at)) = maps.locate(block, page) else {
             return Err(StoreRefusal::NotHeld);
         };
         let Ok(()) = self.flash.read(held_in, held_at, into) else {
-            unreachable()
+            unreachable!()
         };
         Ok(region)
     }

@@ -28,11 +28,11 @@ pub enum StoreRefusal {
     FlashTooSmall = 16,
 }
 
-impl StoreRefusal {
-    // The number that stands for the refusal outside the program.
-    pub fn number(self) -> u8
-        ensures { result ≡ number_of self }
-    {
-        self as u8
+// The number that stands for the refusal outside the program.
+impl From<StoreRefusal> for u8 {
+    ghost from_gives = { λ refusal number. number ≡ number_of refusal };
+
+    fn from(refusal: StoreRefusal) -> u8 {
+        refusal as u8
     }
 }

@@ -1,7 +1,7 @@
-ghost use Rattle.std.specs.Prelude.{◌≡◌, ◌+◌, ◌<◌, [], ◌∷◌, ◌++◌, map, slice_set};
+ghost use Rattle.std.specs.Prelude.{◌≡◌, ◌+◌, ◌<◌, [], ◌∷◌, ◌++◌, map, take, slice_set};
 ghost use Rattle.rules.specs.State.{live, dead};
 ghost use Rattle.rules.specs.Moves.{retire as retire_if, of_block};
-ghost use Rattle.store.specs.View.{slots_of, Shaped};
+ghost use Rattle.store.specs.View.{slots_of};
 
 use crate::slot::{RegionBlock, Slot};
 use rules::block::LogicalBlock;
@@ -9,8 +9,7 @@ use rules::block::LogicalBlock;
 impl RegionBlock {
     // A block without programmed slots.
     pub(crate) fn empty() -> RegionBlock
-        ensures shaped { Shaped result }
-        ensures slots { slots_of result ≡ [] }
+        ensures { slots_of result ≡ [] }
     {
         RegionBlock {
             slots: [Slot::Dead; 64],
@@ -18,10 +17,16 @@ impl RegionBlock {
         }
     }
 
+    // The programmed slots.
+    pub(crate) fn used_slots(&self) -> &[Slot]
+        ensures { result.now ≡ take self.now.used self.now.slots }
+    {
+        &self.slots[..self.used]
+    }
+
     // The next slot is a page of a logical block.
     pub(crate) fn append(&mut self, block: LogicalBlock, page: u8)
-        requires { (Shaped self.old) × (self.old.used < 64) }
-        ensures shaped { Shaped self.new }
+        requires { self.old.used < 64 }
         ensures used { self.new.used ≡ self.old.used + 1 }
         ensures slots { slots_of self.new ≡ slots_of self.old ++ (live block.0 page ∷ []) }
     {
@@ -31,24 +36,20 @@ impl RegionBlock {
 
     // One slot becomes dead.
     pub(crate) fn mark(&mut self, slot: usize)
-        requires { (Shaped self.old) × (slot < self.old.used) }
-        ensures shaped { Shaped self.new }
-        ensures slots { slots_of self.new ≡ slice_set (slots_of self.old) slot dead }
+        requires { slot < self.old.used }
+        ensures { slots_of self.new ≡ slice_set (slots_of self.old) slot dead }
     {
         self.slots[slot] = Slot::Dead;
     }
 
-    // The live slots of a logical block become dead.
+    // The live slots of a logical block become dead. All slots are passed, since those past the used ones tell nothing.
     pub(crate) fn retire(&mut self, block: LogicalBlock)
-        requires { Shaped self.old }
-        ensures shaped { Shaped self.new }
-        ensures slots { slots_of self.new ≡ map (retire_if (of_block block.0)) (slots_of self.old) }
+        ensures { slots_of self.new ≡ map (retire_if (of_block block.0)) (slots_of self.old) }
     {
-        for i in 0..self.used {
-            let slot = self.slots[i];
-            if let Slot::Live(owner, _) = slot {
+        for slot in self.slots.iter_mut() {
+            if let Slot::Live(owner, _) = *slot {
                 if owner == block {
-                    self.mark(i);
+                    *slot = Slot::Dead;
                 }
             }
         }

@@ -8,18 +8,19 @@ use rules::block::LogicalBlock;
 use rules::pages::PageSet;
 
 impl Maps {
-    // No slot of a data block is live any more.
+    // No slot of a data block is live any more. The blocks past the region have none.
     pub(crate) fn retire(&mut self, block: LogicalBlock)
         ensures { (c : Card) → state_of self.new c ≡ retired_in (state_of self.old c) block.0 }
     {
-        for place in 0..self.plan.region as usize {
-            self.table[place].retire(block);
+        for row in self.table.iter_mut() {
+            row.retire(block);
         }
     }
 
     // A data block was written anew with these pages.
     pub(crate) fn renew(&mut self, block: LogicalBlock, pages: PageSet)
-        requires { (block.0 < self.old.plan.data) × (pages.0 < 2 ^ self.old.pages) }
+        requires a_block { block.0 < self.old.plan.data }
+        requires fits { pages.0 < 2 ^ self.old.pages }
         ensures { (c : Card) → state_of self.new c ≡ renewed_in (state_of self.old c) block.0 pages.0 }
     {
         self.retire(block);

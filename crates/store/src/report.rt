@@ -1,7 +1,7 @@
 use crate::region::Region;
 
 // What an accepted flush or idle round tells.
-#[derive(Clone, Copy, PartialEq, Eq, Debug)]
+#[derive(Clone, Copy, Default, PartialEq, Eq, Debug)]
 pub struct Report {
     // where the group went
     pub way: Option<Region>,

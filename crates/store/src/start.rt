@@ -1,7 +1,7 @@
 ghost use Rattle.std.specs.Prelude.{◌≡◌, ◌≤◌, true};
 ghost use Rattle.flash.specs.Meaning.{Card};
 ghost use Rattle.rules.specs.State.{plan_within};
-ghost use Rattle.store.specs.State.{state_of, empty_maps, least_plan};
+ghost use Rattle.store.specs.State.{state_of, empty_maps};
 
 use crate::maps::Maps;
 use crate::slot::RegionBlock;
@@ -11,7 +11,8 @@ use rules::plan::Plan;
 impl Maps {
     // The maps of a card on which no page is held, divided so.
     pub(crate) fn formatted(plan: Plan, pages: usize) -> Maps
-        requires { (plan_within plan pages ≡ true) × (pages ≤ 64) }
+        requires within { plan_within plan pages ≡ true }
+        requires few_pages { pages ≤ 64 }
         ensures { (c : Card) → state_of result c ≡ empty_maps plan pages c }
     {
         Maps {
@@ -21,18 +22,5 @@ impl Maps {
             table: [RegionBlock::empty(); 16],
             reserve: plan.region as usize - 1,
         }
-    }
-
-    // Maps that stand in until the first format.
-    pub(crate) fn blank() -> Maps
-        ensures { (c : Card) → state_of result c ≡ empty_maps least_plan 2 c }
-    {
-        let plan = Plan {
-            data: 1,
-            region: 2,
-            threshold: 0,
-            idle: 0,
-        };
-        Maps::formatted(plan, 2)
     }
 }

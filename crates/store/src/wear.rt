@@ -9,11 +9,5 @@ pub(crate) fn near_worn<F: Flash>(flash: &F, blocks: u16) -> bool
     ensures { result ≡ near_worn blocks (F.card flash.now) }
 {
     let endurance = u64::from(flash.geometry().endurance);
-    for number in 0..blocks {
-        let count = u64::from(flash.erase_count(PhysicalBlock(number)));
-        if count + 128 > endurance {
-            return true;
-        }
-    }
-    false
+    (0..blocks).any(|number| u64::from(flash.erase_count(PhysicalBlock(number))) + 128 > endurance)
 }

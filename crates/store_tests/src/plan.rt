@@ -1,20 +1,6 @@
 use crate::card::TRIAL;
-use rules::choice::{Counted, greatest};
+use rules::choice::greatest;
 use rules::plan::Plan;
-
-// A record that is nothing but its count.
-#[derive(Clone, Copy)]
-struct Heap {
-    grains: usize,
-}
-
-impl Counted for Heap {
-    ghost tally = { λ h. h.grains };
-
-    fn count(&self) -> usize {
-        self.grains
-    }
-}
 
 // The threshold sets the quota while the idle limit is small, and the idle limit does when it is great.
 #[test]
@@ -29,13 +15,8 @@ fn quota_of_the_trial_card(rt: HostRuntime) {
 // Among two greatest counts the first one is chosen, and among none there is none.
 #[test]
 fn greatest_of_some_counts(rt: HostRuntime) {
-    let heaps = [
-        Heap { grains: 2 },
-        Heap { grains: 5 },
-        Heap { grains: 5 },
-        Heap { grains: 1 },
-    ];
-    assert_eq!(rt; greatest(&heaps), Some(1));
-    assert_eq!(rt; greatest(&heaps[2..4]), Some(0));
-    assert_eq!(rt; greatest(&heaps[0..0]), None);
+    let counts = [2, 5, 5, 1];
+    assert_eq!(rt; greatest(&counts), Some(1));
+    assert_eq!(rt; greatest(&counts[2..4]), Some(0));
+    assert_eq!(rt; greatest(&counts[0..0]), None);
 }

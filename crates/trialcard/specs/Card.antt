@@ -4,6 +4,7 @@ use Rattle.flash.specs.Meaning.{Card, blank_card}
 use Rattle.rules.specs.declared.plan.Plan.{Plan}
 use Rattle.rules.specs.Calls.{formatted}
 use Rattle.worklist.specs.declared.ended.Ended.{Ended}
+use Rattle.worklist.specs.Numbers.{end_number}
 use Rattle.worklist.specs.Runs.{Outcome, run_of, ended_as, answers_after}
 use Rattle.trialcard.specs.Lines.{lines_for, end_line}
 
@@ -25,7 +26,7 @@ pub record RanOn (xs was is : List ℕ) (r : Ended) : Type 0 where
   pub answers : is ≡ answers_after (trial_run xs (length was)) was
 
 abbrev pub outcome_text : Outcome → List ℕ
-outcome_text o = lines_for (length o.done.answers + 1) o.done.answers ++ end_line o.number o.place
+outcome_text o = lines_for (length o.done.answers + 1) o.done.answers ++ end_line (end_number o.fault) o.place
 
 -- what is printed for a list: a line for each record and the last line, or only the last line if the list is longer than 4,096 bytes.
 -- (16,384 bytes have room for the answers to any list of 4,096 bytes: no record takes fewer than 2, and no answer more than 8.)

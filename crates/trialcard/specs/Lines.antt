@@ -1,5 +1,6 @@
 -- The lines that are printed for the answers to a work list.
 use Rattle.std.specs.Prelude.{ℕ, zero, suc, ◌+◌, ◌/◌, ◌%◌, cond, ◌&&◌, List, [], ◌∷◌, ◌++◌, length, take, drop, decimal, ◌==◌, nat_le, nat_lt}
+use Rattle.std.specs.List.{flat_map}
 use Rattle.worklist.specs.declared.answer.AnswerRecord.{AnswerRecord}
 use Rattle.worklist.specs.Answers.{fields_in}
 
@@ -15,9 +16,11 @@ number_text n = 32 ∷ decimal n
 abbrev pub hex_digit : ℕ → ℕ
 hex_digit d = cond (nat_lt d 10) (48 + d) (87 + d)
 
+abbrev pub hex_byte : ℕ → List ℕ
+hex_byte b = hex_digit (b / 16) ∷ hex_digit (b % 16) ∷ []
+
 abbrev pub hex_text : List ℕ → List ℕ
-hex_text [] = []
-hex_text (b ∷ bs) = hex_digit (b / 16) ∷ hex_digit (b % 16) ∷ hex_text bs
+hex_text = flat_map hex_byte
 
 -- a page, behind a space; nothing if there is none
 abbrev pub page_text : List ℕ → List ℕ

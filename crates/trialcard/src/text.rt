@@ -5,6 +5,7 @@ use crate::card::{CHIP, run_on};
 use crate::lines::{push_end, push_lines};
 use chips::plain::PlainChip;
 use std::alloc::{AllocError, Global};
+use worklist::fault::ListFault;
 
 // The longest work list that the trial card takes, in bytes.
 const LONGEST: usize = 4096;
@@ -16,14 +17,13 @@ pub fn text_for(heap: Global, list: &[u8]) -> Result<String, AllocError>
 {
     let mut text = String::new(heap);
     if list.len() > LONGEST {
-        push_end(heap, &mut text, 5, 0)?;
+        push_end(&mut text, Some(ListFault::TooLong), 0)?;
         return Ok(text);
     }
     let mut memory = [0u8; 80];
     let mut answers = [0u8; 16_384];
     let ended = run_on(PlainChip::new(&mut memory, CHIP), list, &mut answers);
-    let written = ended.written;
-    push_lines(heap, &mut text, &answers[0..written])?;
-    push_end(heap, &mut text, ended.number, ended.place)?;
+    push_lines(&mut text, &answers[..ended.written])?;
+    push_end(&mut text, ended.fault, ended.place)?;
     Ok(text)
 }

@@ -1,4 +1,3 @@
-mod AnswerLaws
 mod CarryLaws
 mod ListLaw
 mod ReadLaws

@@ -5,6 +5,7 @@ use Rattle.rules.specs.Runs.{Log, Ran, still, after, erases_of, ceiling}
 use Rattle.rules.specs.State.{State}
 use Rattle.rules.proofs.Laws.{law}
 use Rattle.store.specs.Calls.{answer_in, state_after}
+use Rattle.worklist.specs.declared.fault.ListFault.TheVariants.{NoRoom, TooLong}
 use Rattle.worklist.specs.Law.{RanFrom, Followed, Bounded}
 use Rattle.worklist.specs.Records.{Item, Next, taken, stopped, next_at}
 use Rattle.worklist.specs.Runs.{Progress, begun, call_for, carried, Outcome, onward, ran, room_for, run_of, large_of, small_of, ended_as, ends}
@@ -37,7 +38,7 @@ followed_ran s (suc n) xs size room at w f = go (λ next v g. followed_ran s n x
 
     fits :
         Later → (next : ℕ) (item : Item) (b : Bool) →
-        Followed s (cond b (ran n xs size room next (carried size item w)) (ends 4 at w)).done
+        Followed s (cond b (ran n xs size room next (carried size item w)) (ends (Some NoRoom) at w)).done
     fits later next item true = later next (carried size item w) (followed_carried s size item w f)
     fits later next item false = f
 
@@ -52,7 +53,7 @@ followed_begun (Some s) area = record { end = s; state = refl; run = still }
 pub follows : (xs : List ℕ) (size room : ℕ) (s : Option State) (area : List ℕ) → Followed s (run_of xs size room s area).done
 follows xs size room s area = go (leb (length xs) 16777216)
   where
-    go : (b : Bool) → Followed s (cond b (ran (length xs + 1) xs size room 0 (begun s area)) (ends 5 0 (begun s area))).done
+    go : (b : Bool) → Followed s (cond b (ran (length xs + 1) xs size room 0 (begun s area)) (ends (Some TooLong) 0 (begun s area))).done
     go true = followed_ran s (length xs + 1) xs size room 0 (begun s area) (followed_begun s area)
     go false = followed_begun s area
 

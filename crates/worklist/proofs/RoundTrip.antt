@@ -1,12 +1,12 @@
 -- A record that is written is read back as it was.
-use Rattle.std.proofs.Common.{◌≡◌, ℕ, ◌+◌, ◌*◌, ◌/◌, ◌%◌, ◌^◌, ◌<◌, ◌≤◌, true, leb, List, ◌++◌, length, take, drop, Some, Ok, Result, sym, refl, ap, ◌∙◌, arith, length-append}
+use Rattle.std.proofs.Common.{◌≡◌, ℕ, ◌+◌, ◌*◌, ◌/◌, ◌%◌, ◌^◌, ◌<◌, ◌≤◌, true, leb, List, ◌++◌, length, take, drop, Ok, Result, sym, refl, ap, ◌∙◌, arith, length-append}
 use Rattle.std.proofs.lemmas.List.{take_at}
 use Rattle.std.proofs.lemmas.Bool.{le-leb, cond-true}
 use Rattle.rules.specs.Sets.{pages_in}
 use Rattle.worklist.specs.declared.fault.ListFault.{ListFault}
-use Rattle.worklist.specs.declared.record.Head.{Head}
-use Rattle.worklist.specs.declared.record.Kind.{Kind}
-use Rattle.worklist.specs.declared.record.Kind.TheVariants.{Flush, Read, Discard, Idle}
+use Rattle.worklist.specs.declared.head.Head.{Head}
+use Rattle.worklist.specs.declared.kind.Kind.{Kind}
+use Rattle.worklist.specs.declared.kind.Kind.TheVariants.{Flush, Read, Discard, Idle}
 use Rattle.worklist.specs.Numbers.{kind_number, kind_for}
 use Rattle.worklist.specs.Records.{Item, flush_of, read_of, discard_of, idle_round, zeros_in, head_from, head_of, set_in, data_length, found_if, after_head, head_bytes, set_bytes, written, RecordsReturn}
 
@@ -25,7 +25,7 @@ module _ (k b p : ℕ) (h : k < 8) (i : b < 128) (j : p < 64) where
   page_back : (k * 8192 + b * 64 + p) % 64 ≡ p
   page_back = omega arith
 
-kind_numbered : (k : Kind) → kind_for (kind_number k) ≡ Some k
+kind_numbered : (k : Kind) → kind_for (kind_number k) ≡ Ok k
 kind_numbered Flush = refl
 kind_numbered Read = refl
 kind_numbered Discard = refl
@@ -62,8 +62,8 @@ found_back :
 found_back n ys x at m h e =
     cond-true (leb n (length ys)) _ _ (le-leb n (length ys) h) ∙ ap (λ k. Ok (record { item = x; place = at; next = at + k })) e
 
-pub records_return : RecordsReturn
-records_return size at (flush_of b s x) rest f =
+pub records_return_lem : RecordsReturn
+records_return_lem size at (flush_of b s x) rest f =
     let ys : List ℕ = head_bytes 1 b 0 ++ (set_bytes s ++ (x ++ rest)) in
     let bytes : ℕ = data_length size ys in
     let d : bytes ≡ pages_in 64 s * size = ap (λ n. pages_in 64 n * size) (set_back s f.1) in
@@ -73,12 +73,12 @@ records_return size at (flush_of b s x) rest f =
     found_back (10 + bytes) ys (flush_of b (set_in (drop 2 ys)) (take bytes (drop 10 ys))) at (length (written (flush_of b s x))) (omega arith) (omega arith) ∙
     ap (λ (i : Item). Ok (record { item = i; place = at; next = at + length (written (flush_of b s x)) }))
     (ap (λ n. flush_of b n (take bytes (x ++ rest))) (set_back s f.1) ∙ ap (λ (z : List ℕ). flush_of b s z) q)
-records_return size at (read_of b p) rest f =
+records_return_lem size at (read_of b p) rest f =
     ap (λ (r : Result Head ListFault). after_head r size at (head_bytes 2 b p ++ rest)) (head_back Read b p rest f.0 f.1 refl)
-records_return size at (discard_of b s) rest f =
+records_return_lem size at (discard_of b s) rest f =
     let ys : List ℕ = head_bytes 3 b 0 ++ (set_bytes s ++ rest) in
     ap (λ (r : Result Head ListFault). after_head r size at ys) (head_back Discard b 0 (set_bytes s ++ rest) f.0 (omega arith) refl) ∙
     found_back 10 ys (discard_of b (set_in (drop 2 ys))) at 10 (omega arith) refl ∙
     ap (λ n. Ok (record { item = discard_of b n; place = at; next = at + 10 })) (set_back s f.1)
-records_return size at idle_round rest f =
+records_return_lem size at idle_round rest f =
     ap (λ (r : Result Head ListFault). after_head r size at (head_bytes 4 0 0 ++ rest)) (head_back Idle 0 0 rest (omega arith) (omega arith) refl)

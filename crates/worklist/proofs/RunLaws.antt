@@ -1,7 +1,7 @@
 -- A work list is carried out record by record: what is done so far, and what is left, make up the whole.
 use Rattle.std.proofs.Common.{◌≡◌, ℕ, suc, ◌+◌, ◌-◌, ◌*◌, ◌<◌, ◌≤◌, Bool, true, false, cond, leb, List, [], ◌∷◌, ◌++◌, length, take, drop, Some, None, Ok, Err, Option, Result, sym, refl, ap, ◌∙◌, subst, ap₂, ⊎_elim, append_assoc, arith, length-append, length-drop}
-use borrow.Rule.Slice.PartMut.{put_mid}
-use Rattle.std.proofs.lemmas.List.{drop-drop, drop_at, take_at}
+use borrow.Rule.Slice.PartMut.{put_mid, put_same}
+use Rattle.std.proofs.lemmas.List.{append-nil, drop-drop, drop_all, drop_at, take_at, take_rest}
 use Rattle.std.proofs.lemmas.Bool.{le-leb, lt-leb, leb-true, leb-false, cond-true, cond-false, cases_Bool}
 use Rattle.rules.specs.Calls.{Call, Answer}
 use Rattle.rules.specs.Runs.{Log, accepted, erases_told, erases_of, large_in, small_in, large_groups_in, small_pages_in}
@@ -9,17 +9,17 @@ use Rattle.rules.specs.State.{State}
 use Rattle.store.specs.Calls.{answer_in, state_after}
 use Rattle.worklist.specs.declared.ended.Ended.{Ended}
 use Rattle.worklist.specs.declared.fault.ListFault.{ListFault}
-use Rattle.worklist.specs.declared.fault.ListFault.TheVariants.{CutShort}
-use Rattle.worklist.specs.declared.record.Head.{Head}
-use Rattle.worklist.specs.declared.record.Kind.{Kind}
-use Rattle.worklist.specs.declared.record.Kind.TheVariants.{Flush, Read, Discard, Idle}
+use Rattle.worklist.specs.declared.fault.ListFault.TheVariants.{CutShort, NoRoom}
+use Rattle.worklist.specs.declared.head.Head.{Head}
+use Rattle.worklist.specs.declared.kind.Kind.{Kind}
+use Rattle.worklist.specs.declared.kind.Kind.TheVariants.{Flush, Read, Discard, Idle}
 use Rattle.worklist.specs.declared.step.Step.{Step}
 use Rattle.worklist.specs.Answers.{kind_of, answered}
 use Rattle.worklist.specs.Carry.{large_by, small_by, Told}
-use Rattle.worklist.specs.Law.{Followed, Bounded}
-use Rattle.worklist.specs.Numbers.{end_number}
+use Rattle.worklist.specs.Law.{Followed, Bounded, RunsAs}
 use Rattle.worklist.specs.Records.{Item, flush_of, read_of, discard_of, idle_round, head_of, set_in, data_length, Found, found_if, body_of, after_head, read_one, Next, taken, stopped, next_as, next_at}
-use Rattle.worklist.specs.Runs.{area_then, block_bytes, Progress, begun, call_for, carried, Outcome, ends, onward, ran, room_for, run_of, large_of, small_of, ended_as, answers_after}
+use Rattle.worklist.specs.Runs.{area_then, block_bytes, Progress, begun, call_for, carried, Outcome, ends, onward, ran, room_for, run_of, large_of, small_of, ended_as}
+use Rattle.worklist.specs.Totals.{with_step}
 use Rattle.worklist.proofs.ListLaw.{follows, bounded}
 use Rattle.worklist.proofs.SamePlan.{Same, same_step}
 
@@ -30,7 +30,7 @@ module _ (at : ℕ) (f : Found) where
   found_is true x n e =
       let q : ◌≡◌ {A = Found} (record { item = x; place = at; next = at + n }) f = cc in
       (refl, sym (ap (λ (y : Found). y.place) q), sym (ap (λ (y : Found). y.next) q))
-  found_is false x n e = let z : ◌≡◌ {A = ℕ} 0 1 = cc in absurd (omega arith)
+  found_is false x n e = cc
 
   pub record Lies (n : ℕ) : Type 0 where
     pub here : f.place ≡ at
@@ -53,7 +53,7 @@ module _ (at : ℕ) (f : Found) where
 
   lies_after : (r : Result Head ListFault) (size : ℕ) (xs : List ℕ) → 2 ≤ length xs → after_head r size at xs ≡ Ok f → Lies (length xs)
   lies_after (Ok h) size xs l e = lies_body h.kind h.block h.page size xs l e
-  lies_after (Err x) size xs l e = let z : ◌≡◌ {A = ℕ} 0 1 = cc in absurd (omega arith)
+  lies_after (Err x) size xs l e = cc
 
   lies_read : (size : ℕ) (xs : List ℕ) → read_one size at xs ≡ Ok f → Lies (length xs)
   unfolding head_of
@@ -63,12 +63,12 @@ module _ (at : ℕ) (f : Found) where
       (λ (t : leb 2 (length xs) ≡ false).
       let q : head_of xs ≡ Err CutShort = cond-false (leb 2 (length xs)) _ _ t in
       let r : Err CutShort ≡ Ok f = ap (λ (y : Result Head ListFault). after_head y size at xs) (sym q) ∙ e in
-      let z : ◌≡◌ {A = ℕ} 0 1 = cc in absurd (omega arith))
+      cc)
       (cases_Bool (leb 2 (length xs)))
 
   next_found : (r : Result Found ListFault) → next_as r ≡ taken f → r ≡ Ok f
-  next_found (Ok g) e = let q : g ≡ f = cc in ap (λ (y : Found). Ok y) q
-  next_found (Err x) e = let z : ◌≡◌ {A = ℕ} 0 1 = cc in absurd (omega arith)
+  next_found (Ok g) e = cc
+  next_found (Err x) e = cc
 
 -- what is taken at a place of a list
 pub record TakenAt (xs : List ℕ) (at : ℕ) (f : Found) : Type 0 where
@@ -82,7 +82,7 @@ taken_at xs at size f e =
     ⊎_elim
     (λ (t : leb (length xs) at ≡ true).
     let r : taken f ≡ stopped None = e ∙ cond-true (leb (length xs) at) _ _ t in
-    let z : ◌≡◌ {A = ℕ} 0 1 = cc in absurd (omega arith))
+    cc)
     (λ (t : leb (length xs) at ≡ false).
     let r : read_one size at (drop at xs) ≡ Ok f =
     next_found at f (read_one size at (drop at xs)) (sym (cond-false (leb (length xs) at) _ _ t) ∙ sym e) in
@@ -98,10 +98,10 @@ module _ (n m : ℕ) (xs : List ℕ) (size room at : ℕ) (w : Progress) (h : n 
   ran_next x e =
       ap (λ k. ran k xs size room at w) h ∙ ap (λ (y : Next). onward (ran m xs size room) size room y at w) (sym e)
 
-  pub ran_stop : (e : Option ListFault) → stopped e ≡ next_at xs at size → ran n xs size room at w ≡ ends (end_number e) at w
+  pub ran_stop : (e : Option ListFault) → stopped e ≡ next_at xs at size → ran n xs size room at w ≡ ends e at w
   ran_stop e q = ran_next (stopped e) q
 
-  pub ran_full : (f : Found) → taken f ≡ next_at xs at size → room < length w.answers + room_for size f.item → ran n xs size room at w ≡ ends 4 at w
+  pub ran_full : (f : Found) → taken f ≡ next_at xs at size → room < length w.answers + room_for size f.item → ran n xs size room at w ≡ ends (Some NoRoom) at w
   ran_full f q l =
       ran_next (taken f) q ∙ cond-false (leb (length w.answers + room_for size f.item) room) _ _ (lt-leb (length w.answers + room_for size f.item) room l)
 
@@ -165,19 +165,24 @@ small_called (Some s) (Some t) log c a k =
 
 -- ---- what is done so far
 
--- answers are written behind one another
+-- what is left of a buffer from a place on
+pub left_long : (n : ℕ) (ys : List ℕ) → length (take (length ys - n) (drop n ys)) ≡ length ys - n
+left_long n ys = ap length (take_rest ys n) ∙ length-drop n ys
+
+-- answers are written behind one another: new ones come at the front of what is left of the buffer
 put_behind :
-    (out new ys : List ℕ) (n : ℕ) → n ≡ length out → put_mid n (length new) (out ++ drop (length out) ys) new ≡ (out ++ new) ++ drop (length (out ++ new)) ys
-put_behind out new ys n e =
-    let k = length out in
-    let zs = out ++ drop k ys in
-    let front : take n zs ≡ out = take_at out (drop k ys) n (sym e) in
-    let back : drop n zs ≡ drop k ys = drop_at out (drop k ys) n (sym e) in
-    let end : drop (length new) (drop k ys) ≡ drop (length (out ++ new)) ys =
-    drop-drop (length new) k ys ∙ ap (λ m. drop m ys) (sym (length-append out new)) in
-    ap (λ (u : List ℕ). u ++ (new ++ drop (length new) (drop n zs))) front ∙
-    ap (λ (u : List ℕ). out ++ (new ++ u)) (ap (drop (length new)) back ∙ end) ∙
-    sym (append_assoc out new (drop (length (out ++ new)) ys))
+    (out new ys : List ℕ) (n k : ℕ) → n ≡ length out → k ≡ length new →
+    let zs = out ++ drop (length out) ys in
+    let left = take (length zs - n) (drop n zs) in
+    put_mid n (length zs - n) zs (new ++ drop k left) ≡ (out ++ new) ++ drop (length (out ++ new)) ys
+put_behind out new ys n k e f =
+    let zs = out ++ drop (length out) ys in
+    let front : take n zs ≡ out = take_at out (drop (length out) ys) n (sym e) in
+    let back : drop n zs ≡ drop (length out) ys = drop_at out (drop (length out) ys) n (sym e) in
+    let left : take (length zs - n) (drop n zs) ≡ drop (length out) ys = take_rest zs n ∙ back in
+    let none : drop (length zs - n) (drop n zs) ≡ [] = drop_all (length zs - n) (drop n zs) (omega (arith, length-drop n zs)) in
+    let end : drop k (drop (length out) ys) ≡ drop (length (out ++ new)) ys = drop-drop k (length out) ys ∙ ap (λ m. drop m ys) (omega (arith, length-append out new)) in
+    rw (front, left, none, end, append-nil) (sym (append_assoc out new (drop (length (out ++ new)) ys)))
 
 -- a run over the list xs that began in the state s₀ with the buffers ys₀ and area₀, and has come to a place with so much told
 pub record Underway (xs : List ℕ) (size : ℕ) (s₀ : Option State) (ys₀ area₀ : List ℕ) (place : ℕ) (t : Ended) (s : Option State) (ys area : List ℕ) : Type 0 where
@@ -201,7 +206,7 @@ pub record Underway (xs : List ℕ) (size : ℕ) (s₀ : Option State) (ys₀ ar
   pub fits : t.written ≤ length ys₀
 
 abbrev pub nothing : Ended
-nothing = record { number = 0; place = 0; records = 0; written = 0; erases = 0; large_groups = 0; small_pages = 0 }
+nothing = record { fault = None; place = 0; records = 0; written = 0; erases = 0; large_groups = 0; small_pages = 0 }
 
 none_large : (s : Option State) → 0 ≡ large_of s []
 none_large None = refl
@@ -233,84 +238,42 @@ underway_none xs size s ys area =
       fits = omega arith;
     }
 
--- all that a run promises: what it tells, the state and the buffers then, that it is a run of calls, and that its erases are bounded
-pub record Complete (xs : List ℕ) (size : ℕ) (s₀ : Option State) (ys₀ area₀ : List ℕ) (r : Ended) (s : Option State) (ys area : List ℕ) : Type 0 where
-  pub tells : r ≡ ended_as s₀ (run_of xs size (length ys₀) s₀ area₀)
-  pub leaves : s ≡ (run_of xs size (length ys₀) s₀ area₀).done.state
-  pub answered_so : ys ≡ answers_after (run_of xs size (length ys₀) s₀ area₀) ys₀
-  pub clears : area ≡ (run_of xs size (length ys₀) s₀ area₀).done.area
-  pub follows_so : Followed s₀ (run_of xs size (length ys₀) s₀ area₀).done
-  pub bounded_so : Bounded s₀ r
-
--- it is all about the outcome of the whole list
-complete_by :
-    (xs : List ℕ) (size : ℕ) (s₀ : Option State) (ys₀ area₀ : List ℕ) (r : Ended) (o : Outcome) → o ≡ run_of xs size (length ys₀) s₀ area₀ →
-    r ≡ ended_as s₀ o → Complete xs size s₀ ys₀ area₀ r o.done.state (answers_after o ys₀) o.done.area
-complete_by xs size s₀ ys₀ area₀ r o e t =
-    let whole = run_of xs size (length ys₀) s₀ area₀ in
-    let f = follows xs size (length ys₀) s₀ area₀ in
-    let told : r ≡ ended_as s₀ whole = t ∙ ap (ended_as s₀) e in
-    record {
-      tells = told;
-      leaves = ap (λ (x : Outcome). x.done.state) e;
-      answered_so = ap (λ (x : Outcome). answers_after x ys₀) e;
-      clears = ap (λ (x : Outcome). x.done.area) e;
-      follows_so = f;
-      bounded_so = subst (Bounded s₀) (sym told) (bounded s₀ whole f);
-    }
-
--- a list that is too long
-pub complete_long :
-    (xs : List ℕ) (size : ℕ) (s₀ : Option State) (ys₀ area₀ : List ℕ) (n : ℕ) → 16777216 < length xs → n ≡ 5 →
-    Complete xs size s₀ ys₀ area₀ (record { number = n; place = 0; records = 0; written = 0; erases = 0; large_groups = 0; small_pages = 0 }) s₀ ys₀ area₀
-complete_long xs size s₀ ys₀ area₀ n long e =
-    complete_by xs size s₀ ys₀ area₀ _ (ends 5 0 (begun s₀ area₀)) (sym (cond-false (leb (length xs) 16777216) _ _ (lt-leb (length xs) 16777216 long)))
-    (λ i. record { number = e i; place = 0; records = 0; written = 0; erases = 0; large_groups = none_large s₀ i; small_pages = none_small s₀ i })
-
 module _ (xs : List ℕ) (size : ℕ) (s₀ : Option State) (ys₀ area₀ : List ℕ) (place : ℕ) (t : Ended) (s : Option State) (ys area : List ℕ) (u : Underway xs size s₀ ys₀ area₀ place t s ys area) where
   -- one record more
-  abbrev pub further : Step → Ended
-  further k =
-      record {
-        number = t.number;
-        place = t.place;
-        records = t.records + 1;
-        written = t.written + k.written;
-        erases = t.erases + k.erases;
-        large_groups = t.large_groups + k.large;
-        small_pages = t.small_pages + k.small;
-      }
-
   pub underway_on :
-      (f : Found) (k : Step) (place' : ℕ) (s' : Option State) (ys' area' : List ℕ) → place' ≡ f.next → taken f ≡ next_at xs place size → t.written + room_for size f.item ≤ length ys₀ →
+      (f : Found) (k : Step) (t' : Ended) (place' : ℕ) (s' : Option State) (left' area' : List ℕ) → place' ≡ f.next → taken f ≡ next_at xs place size → t.written + room_for size f.item ≤ length ys₀ →
       let c = call_for size (length area) f.item in
-      Told c (answer_in s c) s t.written ys ys' area area' k → k.written ≤ room_for size f.item → s' ≡ state_after s c →
-      Underway xs size s₀ ys₀ area₀ place' (further k) s' ys' area'
-  underway_on f k place' s' ys' area' goes e room told within leaves =
+      let left = take (length ys - t.written) (drop t.written ys) in
+      Told c (answer_in s c) s s' left left' area area' k → k.written ≤ room_for size f.item → t' ≡ with_step t k →
+      Underway xs size s₀ ys₀ area₀ place' t' s' (put_mid t.written (length ys - t.written) ys left') area'
+  underway_on f k t' place' s' left' area' goes e room told within on =
       let w = u.work in
       let at = taken_at xs place size f e in
       let c' : Call = call_for size (length area) f.item in
       let c : Call = call_for size (length w.area) f.item in
       let same_call : c' ≡ c = ap (λ (x : List ℕ). call_for size (length x) f.item) u.area_is in
+      let left : List ℕ = take (length ys - t.written) (drop t.written ys) in
       let tells :
-      Told c (answer_in w.state c) w.state t.written ys ys' area area' k =
-      subst (λ (x : Option State). Told c (answer_in x c) x t.written ys ys' area area' k) u.state
-      (subst (λ (x : Call). Told x (answer_in s x) s t.written ys ys' area area' k) same_call told) in
+      Told c (answer_in w.state c) w.state s' left left' area area' k =
+      subst (λ (x : Option State). Told c (answer_in x c) x s' left left' area area' k) u.state
+      (subst (λ (x : Call). Told x (answer_in s x) s s' left left' area area' k) same_call told) in
       let a : Answer = answer_in w.state c in
       let new : List ℕ = answered (kind_of c) a in
       let done : length xs + 1 - t.records ≡ suc (length xs + 1 - (t.records + 1)) = omega (arith, u.along, at.long, at.inside) in
-      record {
+      subst (λ (y : Ended). Underway xs size s₀ ys₀ area₀ place' y s' (put_mid t.written (length ys - t.written) ys left') area') (sym on)
+      (record {
         work = carried size f.item w;
         left =
             sym
             (ran_on (length xs + 1 - t.records) (length xs + 1 - (t.records + 1)) xs size (length ys₀) place w done f e (omega (arith, u.written)) ∙
             ap (λ n. ran (length xs + 1 - (t.records + 1)) xs size (length ys₀) n (carried size f.item w)) (sym goes)) ∙
             u.left;
-        state = leaves ∙ ap (λ (x : Call). state_after s x) same_call ∙ ap (λ (x : Option State). state_after x c) u.state;
+        state = tells.leaves;
         alike = alike_after s₀ w.state c u.alike;
         answers =
-            tells.answers ∙ ap (λ n. put_mid t.written n ys new) tells.written ∙ ap (λ (x : List ℕ). put_mid t.written (length new) x new) u.answers ∙
-            put_behind w.answers new ys₀ t.written u.written;
+            ap (put_mid t.written (length ys - t.written) ys) tells.answers ∙
+            ap (λ (zs : List ℕ). put_mid t.written (length zs - t.written) zs (new ++ drop k.written (take (length zs - t.written) (drop t.written zs)))) u.answers ∙
+            put_behind w.answers new ys₀ t.written k.written u.written tells.written;
         area_is = tells.area ∙ ap (λ (x : List ℕ). area_then c (accepted a) (block_bytes w.state) x) u.area_is;
         records = omega (arith, u.records, length-append w.log ((c, a) ∷ []));
         written = omega (arith, u.written, tells.written, length-append w.answers new);
@@ -323,13 +286,13 @@ module _ (xs : List ℕ) (size : ℕ) (s₀ : Option State) (ys₀ area₀ : Lis
         along = omega (arith, u.along, at.long, goes);
         inside = omega (arith, at.inside, goes);
         fits = omega (arith, within, room);
-      }
+      })
 
-  -- the list ends here, with a number
-  abbrev pub ending : ℕ → ℕ → Ended
-  ending n end =
+  -- the list ends here, for a fault or at its end
+  abbrev pub ending : Option ListFault → ℕ → Ended
+  ending fault end =
       record {
-        number = n;
+        fault = fault;
         place = end;
         records = t.records;
         written = t.written;
@@ -339,37 +302,43 @@ module _ (xs : List ℕ) (size : ℕ) (s₀ : Option State) (ys₀ area₀ : Lis
       }
 
   complete :
-      (size' n end k : ℕ) → size ≡ size' → end ≡ place → n ≡ k → length xs ≤ 16777216 →
-      ran (length xs + 1 - t.records) xs size (length ys₀) place u.work ≡ ends k place u.work →
-      Complete xs size' s₀ ys₀ area₀ (ending n end) s ys area
-  complete size' n end k same_size here numbered short e =
-      let w = u.work in
-      let r : Ended = ending n end in
-      let whole : ends k place w ≡ run_of xs size (length ys₀) s₀ area₀ =
-      sym e ∙ u.left ∙ sym (cond-true (leb (length xs) 16777216) _ _ (le-leb (length xs) 16777216 short)) in
-      let told : r ≡ ended_as s₀ (ends k place w) =
-      λ i. record { number = numbered i; place = here i; records = u.records i; written = u.written i; erases = u.erases i; large_groups = u.large i; small_pages = u.small i } in
-      subst (λ (m : ℕ). Complete xs m s₀ ys₀ area₀ r s ys area) same_size
-      (subst (λ (x : Option State). Complete xs size s₀ ys₀ area₀ r x ys area) (sym u.state)
-      (subst (λ (x : List ℕ). Complete xs size s₀ ys₀ area₀ r w.state x area) (sym u.answers)
-      (subst (λ (x : List ℕ). Complete xs size s₀ ys₀ area₀ r w.state (answers_after (ends k place w) ys₀) x) (sym u.area_is)
-      (complete_by xs size s₀ ys₀ area₀ r (ends k place w) whole told))))
+      (size' end : ℕ) (fault : Option ListFault) (ys' : List ℕ) → size ≡ size' → end ≡ place → ys' ≡ ys → length xs ≤ 16777216 →
+      ran (length xs + 1 - t.records) xs size (length ys₀) place u.work ≡ ends fault place u.work →
+      RunsAs s₀ (run_of xs size' (length ys₀) s₀ area₀) ys₀ (ending fault end) s ys' area
+  complete size' end fault ys' same_size here same short e =
+      let o : Outcome = ends fault place u.work in
+      let r : Ended = ending fault end in
+      let whole : o ≡ run_of xs size' (length ys₀) s₀ area₀ =
+      sym e ∙ u.left ∙ sym (cond-true (leb (length xs) 16777216) _ _ (le-leb (length xs) 16777216 short)) ∙
+      ap (λ k. run_of xs k (length ys₀) s₀ area₀) same_size in
+      let told : r ≡ ended_as s₀ o =
+      λ i. record { fault = fault; place = here i; records = u.records i; written = u.written i; erases = u.erases i; large_groups = u.large i; small_pages = u.small i } in
+      let followed : Followed s₀ o.done = subst (λ (x : Outcome). Followed s₀ x.done) (sym whole) (follows xs size' (length ys₀) s₀ area₀) in
+      subst (λ (x : Outcome). RunsAs s₀ x ys₀ r s ys' area) whole
+      (record {
+        tells = told;
+        leaves = u.state;
+        answered = same ∙ u.answers;
+        clears = u.area_is;
+        follows = followed;
+        bounded = subst (Bounded s₀) (sym told) (bounded s₀ o followed);
+      })
 
   left_some : t.records ≤ length xs → length xs + 1 - t.records ≡ suc (length xs - t.records)
   left_some h = omega arith
 
   -- at its end, or for a fault
   pub complete_stop :
-      (e : Option ListFault) (size' n end : ℕ) → size ≡ size' → end ≡ place → n ≡ end_number e → length xs ≤ 16777216 → stopped e ≡ next_at xs place size →
-      Complete xs size' s₀ ys₀ area₀ (ending n end) s ys area
-  complete_stop e size' n end same_size here numbered short q =
-      complete size' n end (end_number e) same_size here numbered short
+      (e : Option ListFault) (size' end : ℕ) → size ≡ size' → end ≡ place → length xs ≤ 16777216 → stopped e ≡ next_at xs place size →
+      RunsAs s₀ (run_of xs size' (length ys₀) s₀ area₀) ys₀ (ending e end) s ys area
+  complete_stop e size' end same_size here short q =
+      complete size' end e ys same_size here refl short
       (ran_stop (length xs + 1 - t.records) (length xs - t.records) xs size (length ys₀) place u.work (left_some (omega (arith, u.along, u.inside))) e q)
 
   -- for want of room
   pub complete_full :
-      (f : Found) (size' n end : ℕ) → size ≡ size' → end ≡ f.place → n ≡ 4 → length xs ≤ 16777216 → taken f ≡ next_at xs place size →
-      length ys₀ < t.written + room_for size f.item → Complete xs size' s₀ ys₀ area₀ (ending n end) s ys area
-  complete_full f size' n end same_size here numbered short q room =
-      complete size' n end 4 same_size (here ∙ (taken_at xs place size f q).here) numbered short
+      (f : Found) (size' end : ℕ) → size ≡ size' → end ≡ f.place → length xs ≤ 16777216 → taken f ≡ next_at xs place size →
+      length ys₀ < t.written + room_for size f.item → let n = length ys - t.written in RunsAs s₀ (run_of xs size' (length ys₀) s₀ area₀) ys₀ (ending (Some NoRoom) end) s (put_mid t.written n ys (take n (drop t.written ys))) area
+  complete_full f size' end same_size here short q room =
+      complete size' end (Some NoRoom) _ same_size (here ∙ (taken_at xs place size f q).here) (put_same t.written (length ys - t.written) ys) short
       (ran_full (length xs + 1 - t.records) (length xs - t.records) xs size (length ys₀) place u.work (left_some (omega (arith, u.along, u.inside))) f q (omega (arith, u.written)))

@@ -1,6 +1,10 @@
 -- How the answers to a work list lie in their buffer.
-use Rattle.std.specs.Prelude.{◌≡◌, ℕ, ◌+◌, ◌*◌, ◌/◌, ◌%◌, ◌^◌, ◌<◌, List, [], ◌∷◌, ◌++◌, slice_index}
+use Rattle.std.specs.Prelude.{◌≡◌, ℕ, ◌+◌, ◌*◌, ◌/◌, ◌%◌, ◌^◌, ◌<◌, List, [], ◌∷◌, ◌++◌, Ok, Err, Result, slice_index}
 use Rattle.rules.specs.Calls.{Call, flush, read, discard, idle, Answer, refused, done}
+use Rattle.store.specs.declared.refusal.StoreRefusal.{StoreRefusal}
+use Rattle.store.specs.declared.report.Report.{Report}
+use Rattle.store.specs.Calls.{report_of}
+use Rattle.store.specs.Numbers.{number_of}
 use Rattle.worklist.specs.declared.answer.AnswerRecord.{AnswerRecord}
 
 -- the number of a call's kind
@@ -9,6 +13,11 @@ kind_of (flush d set bytes area) = 1
 kind_of (read d i len) = 2
 kind_of (discard d set) = 3
 kind_of (idle area) = 4
+
+-- what a call answers that gives no bytes: its report, or the number of its refusal
+abbrev pub answer_of : Result Report StoreRefusal → Answer
+answer_of (Ok r) = done (report_of r)
+answer_of (Err e) = refused (number_of e)
 
 -- the fields of an answer to a call of a kind: all are zero after a refusal's number
 abbrev pub fields_for : ℕ → Answer → AnswerRecord

@@ -4,3 +4,4 @@ pub mod Law
 pub mod Numbers
 pub mod Records
 pub mod Runs
+pub mod Totals

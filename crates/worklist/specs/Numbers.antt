@@ -1,7 +1,7 @@
 -- The numbers that stand for kinds of records and for faults of a list.
-use Rattle.std.specs.Prelude.{ℕ, cond, Some, None, Option, ◌==◌}
-use Rattle.worklist.specs.declared.record.Kind.{Kind}
-use Rattle.worklist.specs.declared.record.Kind.TheVariants.{Flush, Read, Discard, Idle}
+use Rattle.std.specs.Prelude.{ℕ, cond, Some, None, Ok, Err, Option, Result, ◌==◌}
+use Rattle.worklist.specs.declared.kind.Kind.{Kind}
+use Rattle.worklist.specs.declared.kind.Kind.TheVariants.{Flush, Read, Discard, Idle}
 use Rattle.worklist.specs.declared.fault.ListFault.{ListFault}
 use Rattle.worklist.specs.declared.fault.ListFault.TheVariants.{UnknownKind, NotZero, CutShort, NoRoom, TooLong}
 
@@ -11,10 +11,10 @@ kind_number Read = 2
 kind_number Discard = 3
 kind_number Idle = 4
 
--- the kind that a number stands for
-abbrev pub kind_for : ℕ → Option Kind
+-- the kind that a number stands for, if one does
+abbrev pub kind_for : ℕ → Result Kind ListFault
 kind_for n =
-    cond (n == 1) (Some Flush) (cond (n == 2) (Some Read) (cond (n == 3) (Some Discard) (cond (n == 4) (Some Idle) None)))
+    cond (n == 1) (Ok Flush) (cond (n == 2) (Ok Read) (cond (n == 3) (Ok Discard) (cond (n == 4) (Ok Idle) (Err UnknownKind))))
 
 abbrev pub fault_number : ListFault → ℕ
 fault_number UnknownKind = 1

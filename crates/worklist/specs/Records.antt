@@ -1,11 +1,12 @@
 -- How the records of a work list lie in its bytes.
-use Rattle.std.specs.Prelude.{◌≡◌, ℕ, ◌+◌, ◌*◌, ◌/◌, ◌%◌, ◌^◌, ◌<◌, Bool, true, cond, ◌&&◌, List, [], ◌∷◌, ◌++◌, length, take, drop, Some, None, Ok, Err, Option, Result, ◌==◌, nat_le, slice_index}
+use Rattle.std.specs.Borrow.{Bor}
+use Rattle.std.specs.Prelude.{◌≡◌, ℕ, ◌+◌, ◌-◌, ◌*◌, ◌/◌, ◌%◌, ◌^◌, ◌<◌, Bool, true, cond, ◌&&◌, List, [], ◌∷◌, ◌++◌, length, take, drop, Some, None, Ok, Err, Option, Result, ◌==◌, nat_le, slice_index}
 use Rattle.rules.specs.Sets.{pages_in}
 use Rattle.worklist.specs.declared.fault.ListFault.{ListFault}
-use Rattle.worklist.specs.declared.fault.ListFault.TheVariants.{UnknownKind, NotZero, CutShort}
-use Rattle.worklist.specs.declared.record.Head.{Head}
-use Rattle.worklist.specs.declared.record.Kind.{Kind}
-use Rattle.worklist.specs.declared.record.Kind.TheVariants.{Flush as Kind-as-Flush, Read as Kind-as-Read, Discard as Kind-as-Discard, Idle as Kind-as-Idle}
+use Rattle.worklist.specs.declared.fault.ListFault.TheVariants.{NotZero, CutShort}
+use Rattle.worklist.specs.declared.head.Head.{Head}
+use Rattle.worklist.specs.declared.kind.Kind.{Kind}
+use Rattle.worklist.specs.declared.kind.Kind.TheVariants.{Flush as Kind-as-Flush, Read as Kind-as-Read, Discard as Kind-as-Discard, Idle as Kind-as-Idle}
 use Rattle.worklist.specs.declared.record.Record.{Record}
 use Rattle.worklist.specs.declared.record.Record.TheVariants.{Flush, Read, Discard, Idle}
 use Rattle.worklist.specs.declared.record.Taken.{Taken}
@@ -26,7 +27,7 @@ pub data Item : Type 0 where
 abbrev pub word_in : List ℕ → ℕ
 word_in xs = slice_index xs 0 * 256 + slice_index xs 1
 
-abbrev pub kind_in : List ℕ → Option Kind
+abbrev pub kind_in : List ℕ → Result Kind ListFault
 kind_in xs = kind_for (word_in xs / 8192)
 
 abbrev pub block_in : List ℕ → ℕ
@@ -42,13 +43,17 @@ zeros_in Kind-as-Read block page = true
 zeros_in Kind-as-Discard block page = page == 0
 zeros_in Kind-as-Idle block page = block == 0 && page == 0
 
-abbrev pub head_from : Option Kind → ℕ → ℕ → Result Head ListFault
-head_from None block page = Err UnknownKind
-head_from (Some k) block page = cond (zeros_in k block page) (Ok (record { kind = k; block = block; page = page })) (Err NotZero)
+abbrev pub head_from : Result Kind ListFault → ℕ → ℕ → Result Head ListFault
+head_from (Err e) block page = Err e
+head_from (Ok k) block page = cond (zeros_in k block page) (Ok (record { kind = k; block = block; page = page })) (Err NotZero)
+
+-- the head in two bytes
+abbrev pub head_in : List ℕ → Result Head ListFault
+head_in xs = head_from (kind_in xs) (block_in xs) (page_in xs)
 
 -- the head at the front of some bytes
 unfoldable pub head_of : List ℕ → Result Head ListFault
-head_of xs = cond (nat_le 2 (length xs)) (head_from (kind_in xs) (block_in xs) (page_in xs)) (Err CutShort)
+head_of xs = cond (nat_le 2 (length xs)) (head_in xs) (Err CutShort)
 
 -- ---- the rest of a record
 
@@ -114,9 +119,10 @@ item_of Idle = idle_round
 abbrev pub found_by : Taken → Found
 found_by t = record { item = item_of t.record; place = t.place; next = t.next }
 
-abbrev pub found_of : Result Taken ListFault → Result Found ListFault
-found_of (Ok t) = Ok (found_by t)
-found_of (Err e) = Err e
+-- a record at the front of so many bytes, which begin at the place `at`, and the bytes behind it
+abbrev pub found_from : ℕ → ℕ → Result (Record × Bor (List ℕ)) ListFault → Result Found ListFault
+found_from at bytes (Ok parts) = Ok (record { item = item_of parts.0; place = at; next = at + (bytes - length parts.1.now) })
+found_from at bytes (Err e) = Err e
 
 abbrev pub next_by : Option Taken → Option ListFault → Next
 next_by (Some t) fault = taken (found_by t)

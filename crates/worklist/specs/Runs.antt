@@ -5,8 +5,9 @@ use Rattle.rules.specs.Runs.{Log, accepted, erases_of, large_groups_in, small_pa
 use Rattle.rules.specs.State.{State}
 use Rattle.store.specs.Calls.{answer_in, state_after}
 use Rattle.worklist.specs.declared.ended.Ended.{Ended}
+use Rattle.worklist.specs.declared.fault.ListFault.{ListFault}
+use Rattle.worklist.specs.declared.fault.ListFault.TheVariants.{NoRoom, TooLong}
 use Rattle.worklist.specs.Answers.{kind_of, answered}
-use Rattle.worklist.specs.Numbers.{end_number}
 use Rattle.worklist.specs.Records.{Item, flush_of, read_of, discard_of, idle_round, Next, taken, stopped, next_at}
 
 -- the call that a record asks for: a read has a buffer of a page, and flushes and idle rounds have a work area of so many bytes
@@ -69,30 +70,30 @@ carried size item w =
     let c = call_for size (length w.area) item in
     called c (answer_in w.state c) w
 
--- how a list ended: with a number, at a place
+-- how a list ended: for a fault or at its end, at a place
 pub record Outcome : Type 0 where
-  pub number : ℕ
+  pub fault : Option ListFault
   pub place : ℕ
   pub done : Progress
 
-abbrev pub ends : ℕ → ℕ → Progress → Outcome
-ends number place w = record { number = number; place = place; done = w }
+abbrev pub ends : Option ListFault → ℕ → Progress → Outcome
+ends fault place w = record { fault = fault; place = place; done = w }
 
 -- the next record ends the list, or is carried out if there is room for its answer, and the others follow
 abbrev pub onward : (ℕ → Progress → Outcome) → ℕ → ℕ → Next → ℕ → Progress → Outcome
-onward rest size room (stopped e) at w = ends (end_number e) at w
+onward rest size room (stopped e) at w = ends e at w
 onward rest size room (taken f) at w =
-    cond (nat_le (length w.answers + room_for size f.item) room) (rest f.next (carried size f.item w)) (ends 4 at w)
+    cond (nat_le (length w.answers + room_for size f.item) room) (rest f.next (carried size f.item w)) (ends (Some NoRoom) at w)
 
 -- at most n records, from the place `at` on, with pages of so many bytes and room for so many bytes of answers
 unfoldable pub ran : ℕ → List ℕ → ℕ → ℕ → ℕ → Progress → Outcome
-ran zero xs size room at w = ends 0 at w
+ran zero xs size room at w = ends None at w
 ran (suc n) xs size room at w = onward (ran n xs size room) size room (next_at xs at size) at w
 
 -- a whole list, if it is not too long: a record takes two bytes or more, so its length bounds the number of records
 abbrev pub run_of : List ℕ → ℕ → ℕ → Option State → List ℕ → Outcome
 run_of xs size room s area =
-    cond (nat_le (length xs) 16777216) (ran (length xs + 1) xs size room 0 (begun s area)) (ends 5 0 (begun s area))
+    cond (nat_le (length xs) 16777216) (ran (length xs + 1) xs size room 0 (begun s area)) (ends (Some TooLong) 0 (begun s area))
 
 -- G and M of a log of calls on a store: none of one that is not formatted
 abbrev pub large_of : Option State → Log → ℕ
@@ -107,7 +108,7 @@ small_of (Some s) log = small_pages_in s.plan.threshold s.pages log
 abbrev pub ended_as : Option State → Outcome → Ended
 ended_as s o =
     record {
-      number = o.number;
+      fault = o.fault;
       place = o.place;
       records = length o.done.log;
       written = length o.done.answers;

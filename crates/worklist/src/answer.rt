@@ -1,18 +1,17 @@
-ghost use Rattle.std.specs.Prelude.{◌≡◌, ◌+◌, ◌≤◌, length};
-ghost use borrow.Rule.Slice.PartMut.{put_mid};
-ghost use Rattle.rules.specs.Calls.{refused as refused_with, done as done_with};
-ghost use Rattle.store.specs.Calls.{report_of, way_in};
-ghost use Rattle.store.specs.Numbers.{number_of};
-ghost use Rattle.worklist.specs.Answers.{fields_for, fields_bytes, fields_in, Packs};
-ghost use Rattle.worklist.specs.Carry.{Small};
+ghost use Rattle.std.specs.Prelude.{◌≡◌};
+ghost use Rattle.std.specs.Result.{ForOk};
+ghost use Rattle.store.specs.Calls.{way_in};
+ghost use Rattle.worklist.specs.Answers.{fields_for, fields_bytes, fields_in, answer_of};
 ghost use Rattle.worklist.specs.Numbers.{kind_number};
+ghost use Rattle.worklist.specs.Carry.{Small};
 
-use crate::record::Kind;
+use crate::kind::Kind;
 use store::refusal::StoreRefusal;
 use store::region::Region;
 use store::report::Report;
 
-// What is told of a record that was carried out; all is zero after the number of a refusal.
+// What four bytes of an answer buffer say. The fields are numbers, since any four bytes say something: also those that
+// name no kind of record and no refusal.
 #[derive(Clone, Copy, PartialEq, Eq, Debug)]
 pub struct AnswerRecord {
     // the number of the record's kind
@@ -26,21 +25,11 @@ pub struct AnswerRecord {
     pub merges: u8,
 }
 
-// The number of a way.
-fn way_number(way: Option<Region>) -> u8
-    ensures { result ≡ way_in way }
-{
-    match way {
-        Some(region) => region as u8,
-        None => 0,
-    }
-}
+// Byte by byte, as the definition of the fields takes them apart.
+impl From<[u8; 4]> for AnswerRecord {
+    ghost from_gives = { λ bytes fields. fields ≡ fields_in bytes };
 
-impl AnswerRecord {
-    // What four bytes of an answer buffer say.
-    pub fn from_bytes(bytes: [u8; 4]) -> AnswerRecord
-        ensures { result ≡ fields_in bytes }
-    {
+    fn from(bytes: [u8; 4]) -> AnswerRecord {
         AnswerRecord {
             kind: bytes[0] / 32,
             number: bytes[0] % 32,
@@ -50,55 +39,39 @@ impl AnswerRecord {
             merges: bytes[3] % 128,
         }
     }
-
-    // The answer to a record that is refused.
-    pub(crate) fn refused(kind: Kind, refusal: StoreRefusal) -> AnswerRecord
-        ensures is { result ≡ fields_for (kind_number kind) (refused_with (number_of refusal)) }
-        ensures packs { Packs result }
-    {
-        AnswerRecord {
-            kind: kind as u8,
-            number: refusal.number(),
-            way: 0,
-            erases: 0,
-            compactions: 0,
-            merges: 0,
-        }
-    }
-
-    // The answer to a record that is carried out and reports so.
-    pub(crate) fn done(kind: Kind, report: Report) -> AnswerRecord
-        requires { Small report }
-        ensures is { result ≡ fields_for (kind_number kind) (done_with (report_of report)) }
-        ensures packs { Packs result }
-    {
-        AnswerRecord {
-            kind: kind as u8,
-            number: 0,
-            way: way_number(report.way),
-            erases: report.erases as u8,
-            compactions: report.compactions as u8,
-            merges: report.merges as u8,
-        }
-    }
-
-    // The four bytes of an answer.
-    pub(crate) fn to_bytes(self) -> [u8; 4]
-        requires { Packs self }
-        ensures { result ≡ fields_bytes self }
-    {
-        let high = self.kind as u32 * 536_870_912 + self.number as u32 * 16_777_216;
-        let middle = self.way as u32 * 4_194_304 + self.erases as u32 * 16_384;
-        let low = self.compactions as u32 * 128 + self.merges as u32;
-        (high + middle + low).to_be_bytes()
-    }
 }
 
-// Writes an answer at a place of the answer buffer.
-pub(crate) fn put_answer(answers: &mut [u8], at: usize, answer: AnswerRecord)
-    requires { (Packs answer) × (at + 4 ≤ length answers.old) }
-    ensures { answers.new ≡ put_mid at 4 answers.old (fields_bytes answer) }
+// What is answered to a record of a kind: the report of what was done, or why it is refused.
+#[derive(Clone, Copy)]
+pub(crate) struct Answer {
+    pub(crate) kind: Kind,
+    pub(crate) outcome: Result<Report, StoreRefusal>,
+    ghost small: { ForOk outcome Small },
+}
+
+// The number of a way. A function, since `Option` and `u8` are both the library's.
+fn way_number(way: Option<Region>) -> u8
+    ensures { result ≡ way_in way }
 {
-    let bytes = answer.to_bytes();
-    answers[at..at + 4].copy_from_slice(&bytes);
+    way.map_or(0, u8::from)
+}
+
+// The four bytes of an answer. All is zero after the number of a refusal.
+impl From<Answer> for [u8; 4] {
+    ghost from_gives = { λ answer bytes.
+        bytes ≡ fields_bytes (fields_for (kind_number answer.kind) (answer_of answer.outcome)) };
+
+    fn from(answer: Answer) -> [u8; 4] {
+        let kind = u32::from(u8::from(answer.kind)) << 29;
+        let word = match answer.outcome {
+            Ok(report) => {
+                let way = u32::from(way_number(report.way)) << 22;
+                let erases = (report.erases as u32) << 14;
+                let compactions = (report.compactions as u32) << 7;
+                kind + way + erases + compactions + report.merges as u32
+            }
+            Err(refusal) => kind + (u32::from(u8::from(refusal)) << 24),
+        };
+        word.to_be_bytes()
+    }
 }

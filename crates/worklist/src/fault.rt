@@ -16,11 +16,11 @@ pub enum ListFault {
     TooLong = 5,
 }
 
-impl ListFault {
-    // The number that stands for the fault outside the program.
-    pub fn number(self) -> u8
-        ensures { result ≡ fault_number self }
-    {
-        self as u8
+// The number that stands for the fault outside the program.
+impl From<ListFault> for u8 {
+    ghost from_gives = { λ fault number. number ≡ fault_number fault };
+
+    fn from(fault: ListFault) -> u8 {
+        fault as u8
     }
 }

@@ -5,6 +5,8 @@ pub mod answer;
 mod carry;
 pub mod ended;
 pub mod fault;
+mod head;
+pub mod kind;
 pub mod laws;
 pub mod reader;
 pub mod record;

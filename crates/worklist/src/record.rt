@@ -1,23 +1,6 @@
 use rules::block::LogicalBlock;
 use rules::pages::PageSet;
 
-// What a record is for.
-#[derive(Clone, Copy, PartialEq, Eq, Debug)]
-pub enum Kind {
-    Flush = 1,
-    Read = 2,
-    Discard = 3,
-    Idle = 4,
-}
-
-// What the first two bytes of a record say.
-#[derive(Clone, Copy)]
-pub(crate) struct Head {
-    pub(crate) kind: Kind,
-    pub(crate) block: u8,
-    pub(crate) page: u8,
-}
-
 // A record of a work list. A flush shows its data as a part of the list.
 #[derive(Clone, Copy)]
 pub enum Record<'a> {

@@ -1,10 +1,8 @@
 ghost use Rattle.std.specs.Prelude.{◌≡◌, length};
 ghost use Rattle.store.specs.Calls.{state_in};
-ghost use Rattle.store.specs.State.{state_of};
-ghost use Rattle.worklist.specs.Law.{Followed, Bounded};
-ghost use Rattle.worklist.specs.Numbers.{end_number};
+ghost use Rattle.worklist.specs.Law.{RunsAs};
 ghost use Rattle.worklist.specs.Records.{item_of};
-ghost use Rattle.worklist.specs.Runs.{room_for, run_of, ended_as, answers_after};
+ghost use Rattle.worklist.specs.Runs.{room_for, run_of};
 
 use crate::carry::carry;
 use crate::ended::Ended;
@@ -22,24 +20,8 @@ fn room_for(work: Record, size: usize) -> u128
     ensures { result ≡ room_for size (item_of work.entry) }
 {
     match work {
-        Record::Flush {
-            block: _,
-            pages: _,
-            bytes: _,
-        } => 4,
-        Record::Read { block: _, page: _ } => 4 + size as u128,
-        Record::Discard { block: _, pages: _ } => 4,
-        Record::Idle => 4,
-    }
-}
-
-// The number with which a list ends.
-fn end_number(fault: Option<ListFault>) -> u8
-    ensures { result ≡ end_number fault }
-{
-    match fault {
-        Some(fault) => fault.number(),
-        None => 0,
+        Record::Read { .. } => 4 + size as u128,
+        _ => 4,
     }
 }
 
@@ -52,44 +34,36 @@ pub fn run<F: Flash>(
     answers: &mut [u8],
     area: &mut [u8],
 ) -> Ended
-    ensures tells { result ≡ ended_as (state_in store.old.formatted (state_of store.old.maps (F.card store.old.flash))) (run_of list.now (F.card store.old.flash).shape.size (length answers.old) (state_in store.old.formatted (state_of store.old.maps (F.card store.old.flash))) area.old) }
-    ensures leaves { state_in store.new.formatted (state_of store.new.maps (F.card store.new.flash)) ≡ (run_of list.now (F.card store.old.flash).shape.size (length answers.old) (state_in store.old.formatted (state_of store.old.maps (F.card store.old.flash))) area.old).done.state }
-    ensures answered { answers.new ≡ answers_after (run_of list.now (F.card store.old.flash).shape.size (length answers.old) (state_in store.old.formatted (state_of store.old.maps (F.card store.old.flash))) area.old) answers.old }
-    ensures clears { area.new ≡ (run_of list.now (F.card store.old.flash).shape.size (length answers.old) (state_in store.old.formatted (state_of store.old.maps (F.card store.old.flash))) area.old).done.area }
-    ensures follows { Followed (state_in store.old.formatted (state_of store.old.maps (F.card store.old.flash))) (run_of list.now (F.card store.old.flash).shape.size (length answers.old) (state_in store.old.formatted (state_of store.old.maps (F.card store.old.flash))) area.old).done }
-    ensures bounded { Bounded (state_in store.old.formatted (state_of store.old.maps (F.card store.old.flash))) result }
+    ensures { let s = state_in store.old.maps (F.card store.old.flash) in
+        let s' = state_in store.new.maps (F.card store.new.flash) in
+        let o = run_of list.now (F.card store.old.flash).shape.size (length answers.old) s area.old in
+        RunsAs s o answers.old result s' answers.new area.new }
 {
-    let mut total = Ended {
-        number: 0,
-        place: 0,
-        records: 0,
-        written: 0,
-        erases: 0,
-        large_groups: 0,
-        small_pages: 0,
-    };
     if list.len() > LONGEST {
-        total.number = ListFault::TooLong.number();
-        return total;
+        return Ended {
+            fault: Some(ListFault::TooLong),
+            ..Ended::default()
+        };
     }
     let size = store.flash().geometry().size;
     let mut reader = Reader::new(list, size);
+    let mut total = Ended::default();
     loop {
         let Some(taken) = reader.next() else {
-            total.number = end_number(reader.fault);
-            total.place = reader.place;
-            return total;
+            return Ended {
+                fault: reader.fault(),
+                place: reader.place,
+                ..total
+            };
         };
-        if ((answers.len() - total.written) as u128) < room_for(taken.record, size) {
-            total.number = ListFault::NoRoom.number();
-            total.place = taken.place;
-            return total;
+        let left = &mut answers[total.written..];
+        if (left.len() as u128) < room_for(taken.record, size) {
+            return Ended {
+                fault: Some(ListFault::NoRoom),
+                place: taken.place,
+                ..total
+            };
         }
-        let step = carry(store, taken.record, answers, total.written, size, area);
-        total.records += 1;
-        total.written += step.written;
-        total.erases += step.erases;
-        total.large_groups += step.large;
-        total.small_pages += step.small;
+        total += carry(store, taken.record, size, left, area);
     }
 }

@@ -1,5 +1,5 @@
 // What carrying out one record took.
-#[derive(Clone, Copy)]
+#[derive(Clone, Copy, Default)]
 pub(crate) struct Step {
     // bytes of its answer
     pub(crate) written: usize,

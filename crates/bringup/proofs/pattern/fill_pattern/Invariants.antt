@@ -1,3 +1,4 @@
+-- What each turn of the loop over the bytes keeps.
 use Rattle.std.proofs.Common.{◌≡◌, ℕ, ◌<◌, get_or}
 use Rattle.bringup.specs.Pattern.{pattern_byte}
 use Rattle.bringup.proofs.pattern.fill_pattern.Given as goal

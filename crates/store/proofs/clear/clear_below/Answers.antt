@@ -9,7 +9,8 @@ loop-number-init g c = (refl, refl, omega arith)
 
 pub clear-requires : goal.clear-requires
 clear-requires g c =
-    clears_next (g.F.Flash.card c.args.flash.now) (g.F.Flash.card c.loop-number.flash) c.loop-number.number (omega (arith, c.requires.0, c.loop-number-test.true)) c.requires.1 c.loop-number.invariant.1
+    let next = clears_next (g.F.Flash.card c.args.flash.now) (g.F.Flash.card c.loop-number.flash) c.loop-number.number (omega (arith, c.requires.inside, c.loop-number-test.true)) c.requires.lasts c.loop-number.invariant.1 in
+    record { inside = next.0; lasts = next.1 }
 
 pub loop-number-preserved : goal.loop-number-preserved
 loop-number-preserved g c =

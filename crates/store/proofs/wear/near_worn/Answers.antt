@@ -1,16 +1,13 @@
-use Rattle.std.proofs.Common.{sym, refl, ap, arith}
-use Rattle.rules.specs.Calls.{near_worn}
-use Rattle.store.proofs.WearLaws.{far_more, near_found}
+use Rattle.std.proofs.Common.{ℕ, ◌+◌, ltb, refl, ◌∙◌, arith, rules, tests}
+use Rattle.std.proofs.lemmas.Iterator.{YieldsList-from_range}
+use Rattle.std.proofs.lemmas.Iterator.Search.{any_from_yields_List}
+use Rattle.flash.specs.Meaning.{erase_count_at}
+use Rattle.store.proofs.WearLaws.{near_any}
 use Rattle.store.proofs.wear.near_worn.Goals as goal
 
-pub loop-number-init : goal.loop-number-init
-unfolding near_worn
-loop-number-init g c = refl
-
-pub returns-then-count-endurance : goal.returns-then-count-endurance
-returns-then-count-endurance g c =
-    sym (near_found _ _ c.loop-number.number c.loop-number-test.true (omega (arith, c.if-count-endurance.true, c.erase_count.ensures, ap (λ x. x.endurance) c.geometry.ensures.is)))
-
-pub loop-number-preserved : goal.loop-number-preserved
-loop-number-preserved g c =
-    far_more _ _ c.loop-number.invariant (omega (arith, c.if-count-endurance.false, c.erase_count.ensures, ap (λ x. x.endurance) c.geometry.ensures.is))
+pub returns : goal.returns
+returns g c =
+    let k = g.F.Flash.card c.args.flash.now in
+    let near = λ (n : ℕ). ltb k.shape.endurance (erase_count_at k n + 128) in
+    any_from_yields_List near _ _ c.any.result c.any.ensures.ran (YieldsList-from_range 0 c.args.blocks c.args.blocks refl (omega arith)) (λ x b q r. search (rules, tests))
+    ∙ near_any k c.args.blocks

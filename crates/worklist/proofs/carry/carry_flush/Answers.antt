@@ -1,24 +1,22 @@
-use Rattle.std.proofs.Common.{◌^◌, ◌<◌, refl, arith, rules}
-use Rattle.store.specs.State.{state_of}
-use Rattle.worklist.proofs.CarryLaws.{pages_few, flush_told}
+use Rattle.std.proofs.Common.{◌^◌, ◌<◌, ap, ◌∙◌, rules}
+use Rattle.store.specs.Calls.{state_in}
+use Rattle.worklist.specs.declared.step.Step.{Step}
+use Rattle.worklist.proofs.CarryLaws.{small_flush, all_four, flush_told}
+use Rattle.store.proofs.AgreeLaws.{card_of}
 use Rattle.worklist.proofs.carry.carry_flush.Goals as goal
 
-pub done-requires : goal.done-requires
-done-requires g c =
+pub invariant_of-tell : goal.invariant_of-tell
+invariant_of-tell g c =
     let wide : c.args.pages.0 < 2 ^ 64 = search rules in
-    let few = c.in-Ok.ensures.few in
-    let most = pages_few c.args.store.now.maps.pages c.args.pages.0 wide in
-    record { erases = omega (arith, few.2); compactions = omega (arith, few.0, most); merges = omega (arith, few.0, few.1, most) }
+    record { small = small_flush c.flush-outcome.result _ c.args.pages.0 wide c.flush-outcome.ensures.few }
 
-pub returns-in-Ok : goal.returns-in-Ok
-returns-in-Ok g c =
+pub returns-clause-told : goal.returns-clause-told
+returns-clause-told g c =
     let me = c.args.store.now in
+    let then = c.flush-outcome.new.self in
+    let s = state_in me.maps (g.F.Flash.card me.flash) in
+    let s' = state_in then.maps (g.F.Flash.card then.flash) in
     let wide : c.args.pages.0 < 2 ^ 64 = search rules in
-    record {
-      told =
-          flush_told me.formatted (state_of me.maps (g.F.Flash.card me.flash)) c.args.at c.args.answers.now c.put_answer.new.answers c.args.area.now c.flush.new.area c.in-Ok.report c.done.result
-          c.args.block.0 c.args.pages.0 c.args.bytes.now c.group_counts-large.result wide c.in-Ok.ensures.tells c.in-Ok.ensures.clears c.done.ensures.is c.put_answer.ensures
-          c.group_counts-large.ensures (omega (arith, c.in-Ok.ensures.few.2));
-      four = refl;
-      leaves = c.in-Ok.ensures.leaves;
-    }
+    flush_told s s' (g.F.Flash.card me.flash) (card_of me.maps (g.F.Flash.card me.flash)) c.args.fields.now _ c.args.area.now _ c.flush-outcome.result _ c.flush-outcome.ensures.clears
+    c.args.block.0 c.args.pages.0 c.args.bytes.now _ wide c.flush-outcome.ensures.tells c.flush-outcome.ensures.leaves c.flush-outcome.ensures.few (c.tell.ensures.wrote ∙ all_four _ c.args.fields.now (search rules))
+    (ap (λ (k : Step). k.written) c.tell.ensures.counts) (ap (λ (k : Step). k.erases) c.tell.ensures.counts) c.group_counts-large.ensures

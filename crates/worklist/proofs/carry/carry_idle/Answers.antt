@@ -1,20 +1,19 @@
-use Rattle.std.proofs.Common.{refl}
-use Rattle.store.specs.State.{state_of}
-use Rattle.worklist.proofs.CarryLaws.{idle_told, idle_small}
+use Rattle.std.proofs.Common.{◌∙◌, rules}
+use Rattle.store.specs.Calls.{state_in}
+use Rattle.worklist.proofs.CarryLaws.{small_idle, all_four, idle_told}
+use Rattle.store.proofs.AgreeLaws.{card_of}
 use Rattle.worklist.proofs.carry.carry_idle.Goals as goal
 
-pub done-requires : goal.done-requires
-done-requires g c =
+pub invariant_of-tell : goal.invariant_of-tell
+invariant_of-tell g c =
     let me = c.args.store.now in
-    idle_small me.formatted (state_of me.maps (g.F.Flash.card me.flash)) _ c.in-Ok.report c.in-Ok.ensures.tells
+    record { small = small_idle (state_in me.maps (g.F.Flash.card me.flash)) _ c.idle_round-outcome.result c.idle_round-outcome.ensures.tells }
 
-pub returns-in-Ok : goal.returns-in-Ok
-returns-in-Ok g c =
+pub returns-clause-told : goal.returns-clause-told
+returns-clause-told g c =
     let me = c.args.store.now in
-    record {
-      told =
-          idle_told me.formatted (state_of me.maps (g.F.Flash.card me.flash)) c.args.at c.args.answers.now c.put_answer.new.answers c.args.area.now c.idle_round.new.area c.in-Ok.report c.done.result
-          c.in-Ok.ensures.tells c.in-Ok.ensures.clears c.done.ensures.is c.put_answer.ensures;
-      four = refl;
-      leaves = c.in-Ok.ensures.leaves;
-    }
+    let then = c.idle_round-outcome.new.self in
+    let s = state_in me.maps (g.F.Flash.card me.flash) in
+    let s' = state_in then.maps (g.F.Flash.card then.flash) in
+    idle_told s s' (g.F.Flash.card me.flash) (card_of me.maps (g.F.Flash.card me.flash)) c.args.fields.now _ c.args.area.now _ c.idle_round-outcome.result 0 c.idle_round-outcome.ensures.clears
+    c.tell.result c.idle_round-outcome.ensures.tells c.idle_round-outcome.ensures.leaves (c.tell.ensures.wrote ∙ all_four _ c.args.fields.now (search rules)) c.tell.ensures.counts

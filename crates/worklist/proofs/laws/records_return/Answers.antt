@@ -1,5 +1,5 @@
-use Rattle.worklist.proofs.RoundTrip.{records_return}
+use Rattle.worklist.proofs.RoundTrip.{records_return_lem}
 use Rattle.worklist.proofs.laws.records_return.Goals as goal
 
 pub returns : goal.returns
-returns c = records_return
+returns c = records_return_lem

@@ -1,41 +1,52 @@
-use Rattle.std.proofs.Common.{◌≡◌, length, None, sym, refl, ◌∙◌, arith}
-use Rattle.chips.specs.Plain.{plain_fault}
-use Rattle.chips.proofs.PlainLaws.{plain_none, none_sound, fault_card, fault_memory, plain_fits, plain_new, plain_new_sound, plain_new_room, plain_new_memory}
+use Rattle.std.proofs.Common.{◌≡◌, length, replicate, None, sym, refl, ap, ◌∙◌, arith}
+use Rattle.flash.specs.declared.geometry.Geometry.{Geometry}
+use Rattle.chips.specs.Plain.{plain_fault, made_card}
+use Rattle.chips.proofs.PlainLaws.{plain_none, default_unused, plain_fitting, fault_card, plain_new}
 use Rattle.chips.proofs.plain.PlainChip.new.Goals as goal
 
 pub invariant_of-result : goal.invariant_of-result
 invariant_of-result c =
-    record { entries = refl; small = (omega arith, omega arith, omega arith); room = omega arith; whole = ∣ none_sound _ _ ∣₁ }
+    let none = plain_none _ c.args.memory.now (replicate 256 c.default-table.result) refl in
+    record {
+      blocks_high = omega arith;
+      pages_high = omega arith;
+      size_high = omega arith;
+      entries = refl;
+      room = none.room;
+      whole = none.whole;
+    }
 
-pub returns-in-Some : goal.returns-in-Some
-returns-in-Some c =
+pub returns-in_default-clause-shows : goal.returns-in_default-clause-shows
+returns-in_default-clause-shows c =
     let g = c.args.geometry in
     let m = c.args.memory.now in
-    let f = c.in-Some.field-0 in
-    record {
-      shows = plain_none _ _ ∙ fault_card f g (length m) c.in-Some.ensures;
-      holds = fault_memory f g (length m) m c.in-Some.ensures;
-    }
+    let none = plain_none _ m (replicate 256 c.default-table.result) refl in
+    none.means ∙ fault_card c.in_default.field-0 g (length m) (c.in_default.ensures.fault ∙ plain_fitting g (length m))
 
 pub invariant_of-result-2 : goal.invariant_of-result-2
 invariant_of-result-2 c =
-    let g = c.args.geometry in
+    let g = c.in-Ok.layout.geometry in
     let m = c.args.memory.now in
-    let h : plain_fault g (length m) ≡ None = sym c.in_default.ensures in
-    let f = plain_fits g (length m) h in
+    let d = c.default-table.ensures in
+    let table = ap (replicate 256) (default_unused c.default-table.result d.0 d.1) in
+    let h : plain_fault g (length m) ≡ None = rw c.in-Ok.ensures.measures (sym (c.in-Ok.ensures.fault ∙ plain_fitting c.args.geometry (length m))) in
+    let made = plain_new g m c.fill.new.self.bytes.now _ _ table h c.length-length.ensures c.fill.ensures in
+    let layout = c.in-Ok.layout in
     record {
+      blocks_high = layout.blocks_high;
+      pages_high = layout.pages_high;
+      size_high = layout.size_high;
       entries = refl;
-      small = (f.0.blocks_high, f.0.pages_high, f.0.size_high);
-      room = plain_new_room g m c.clear.new.self.bytes.now h c.clear.ensures;
-      whole = plain_new_sound g m c.clear.new.self.bytes.now h c.clear.ensures;
+      room = made.room;
+      whole = made.whole;
     }
 
-pub returns : goal.returns
-returns c =
-    let g = c.args.geometry in
+pub returns-clause-shows : goal.returns-clause-shows
+returns-clause-shows c =
+    let g = c.in-Ok.layout.geometry in
     let m = c.args.memory.now in
-    let h : plain_fault g (length m) ≡ None = sym c.in_default.ensures in
-    record {
-      shows = plain_new g m c.clear.new.self.bytes.now h c.clear.ensures;
-      holds = plain_new_memory g m c.clear.new.self.bytes.now h c.clear.ensures;
-    }
+    let d = c.default-table.ensures in
+    let table = ap (replicate 256) (default_unused c.default-table.result d.0 d.1) in
+    let h : plain_fault g (length m) ≡ None = rw c.in-Ok.ensures.measures (sym (c.in-Ok.ensures.fault ∙ plain_fitting c.args.geometry (length m))) in
+    let made = plain_new g m c.fill.new.self.bytes.now _ _ table h c.length-length.ensures c.fill.ensures in
+    made.means ∙ ap (λ (k : Geometry). made_card (plain_fault k (length m)) k) c.in-Ok.ensures.measures

@@ -1,21 +1,22 @@
 -- A program on a good block is a program on the block below.
-use Rattle.std.proofs.Common.{length, refl}
+use Rattle.std.proofs.Common.{length}
 use Rattle.layers.specs.Good.{good_card}
-use Rattle.layers.proofs.GoodLaws.{seen_good, good_missing}
-use Rattle.layers.proofs.FlashLaws.{missing_program}
+use Rattle.layers.proofs.GoodLaws.{seen_below, none_below}
+use Rattle.layers.proofs.FlashLaws.{missing_program, no_such_block}
 use Rattle.layers.proofs.SeenLaws.{seen_program}
 use Rattle.layers.proofs.good.GoodBlocksFlash.program.Goals as goal
 
-pub returns-in_default : goal.returns-in_default
-returns-in_default g c =
+pub returns-in_err-below : goal.returns-in_err-below
+returns-in_err-below g c =
     let t = c.args.self.now.bad in
     let f = g.F.Flash.card c.args.self.now.flash in
-    let missing = good_missing t f c.args.block.0 c.in_default.ensures in
-    (missing_program (good_card t f) c.args.block.0 missing c.args.page (length c.args.bytes.now), refl)
+    let none = none_below t f c.args.block.0 c.below.result c.below.ensures _ c.in_err-below.was in
+    no_such_block c.from_residual.result _ _ _ _ c.from_residual.ensures.1 none.1
+    (missing_program (good_card t f) c.args.block.0 none.0 c.args.page (length c.args.bytes.now))
 
 pub returns : goal.returns
 returns g c =
     let t = c.args.self.now.bad in
     let f = g.F.Flash.card c.args.self.now.flash in
-    let seen = seen_good t f c.args.block.0 c.in-Some.below c.in-Some.ensures in
-    seen_program seen c.program.result c.args.page c.args.bytes.now (g.F.Flash.card c.program.new.self) c.program.ensures
+    let seen = seen_below t f c.args.block.0 c.below.result c.below.ensures c.in_ok-below.below c.in_ok-below.was in
+    seen_program seen c.program.result c.args.page c.args.bytes.now _ c.program.ensures

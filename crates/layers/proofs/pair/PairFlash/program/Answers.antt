@@ -1,28 +1,29 @@
 -- A program on a pair is a program on the side that the block lies on.
-use Rattle.std.proofs.Common.{length, refl}
+use Rattle.std.proofs.Common.{length}
 use Rattle.layers.specs.Pair.{pair_card}
 use Rattle.layers.proofs.PairLaws.{seen_left, seen_right, pair_missing}
-use Rattle.layers.proofs.FlashLaws.{missing_program}
+use Rattle.layers.proofs.FlashLaws.{missing_program, no_such_block}
 use Rattle.layers.proofs.SeenLaws.{seen_program}
 use Rattle.layers.proofs.pair.PairFlash.program.Goals as goal
 
-pub returns-in_default : goal.returns-in_default
-returns-in_default g c =
+pub returns-in_err-below : goal.returns-in_err-below
+returns-in_err-below g c =
     let l = g.L.Flash.card c.args.self.now.left in
     let r = g.R.Flash.card c.args.self.now.right in
-    let missing = pair_missing l r c.args.block.0 c.in_default.ensures in
-    (missing_program (pair_card l r) c.args.block.0 missing c.args.page (length c.args.bytes.now), refl)
+    let missing = pair_missing l r c.args.block.0 c.locate.result _ c.locate.ensures c.in_err-below.was in
+    no_such_block c.from_residual.result _ _ _ _ c.from_residual.ensures.1 missing.1
+    (missing_program (pair_card l r) c.args.block.0 missing.0 c.args.page (length c.args.bytes.now))
 
 pub returns-in-Left : goal.returns-in-Left
 returns-in-Left g c =
     let l = g.L.Flash.card c.args.self.now.left in
     let r = g.R.Flash.card c.args.self.now.right in
-    let seen = seen_left l r c.args.block.0 c.in-Some.ensures c.in-Left.is in
-    seen_program seen c.program.result c.args.page c.args.bytes.now (g.L.Flash.card c.program.new.self) c.program.ensures
+    let seen = seen_left l r c.args.block.0 c.locate.result c.locate.ensures c.in_ok-below.was c.in-Left.is in
+    seen_program seen c.program.result c.args.page c.args.bytes.now _ c.program.ensures
 
 pub returns-in-Right : goal.returns-in-Right
 returns-in-Right g c =
     let l = g.L.Flash.card c.args.self.now.left in
     let r = g.R.Flash.card c.args.self.now.right in
-    let seen = seen_right l r c.args.block.0 c.in-Some.ensures c.in-Right.is in
-    seen_program seen c.program-in-Right.result c.args.page c.args.bytes.now (g.R.Flash.card c.program-in-Right.new.self) c.program-in-Right.ensures
+    let seen = seen_right l r c.args.block.0 c.locate.result c.locate.ensures c.in_ok-below.was c.in-Right.is in
+    seen_program seen c.program-in-Right.result c.args.page c.args.bytes.now _ c.program-in-Right.ensures

@@ -1,11 +1,7 @@
 -- The ones among 64 bits are the pages.
 use Rattle.std.proofs.Common.{arith}
-use Rattle.std.proofs.lemmas.Nat.{ones-le}
 use Rattle.rules.proofs.PageSetLaws.{ones_pages}
 use Rattle.rules.proofs.pages.PageSet.len.Goals as goal
-
-pub overflow_cast-result : goal.overflow_cast-result
-overflow_cast-result c = omega (arith, ones-le 64 c.args.self.0 (omega arith))
 
 pub returns : goal.returns
 returns c = ones_pages 64 c.args.self.0 (omega arith)

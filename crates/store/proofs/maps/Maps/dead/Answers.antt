@@ -1,28 +1,18 @@
--- One block more in each turn.
-use Rattle.std.proofs.Common.{◌≤◌, get_or, ◌∙◌, arith}
+-- The sum fits.
+use Rattle.std.proofs.Common.{ℕ, take, rules, tests}
+use Rattle.std.proofs.lemmas.Iterator.{YieldsList-from_slice, YieldsList-from_map}
+use Rattle.std.proofs.lemmas.Iterator.Consumers.{fits_by_from_yields_list}
 use Rattle.rules.specs.State.{deads}
+use Rattle.store.specs.declared.slot.RegionBlock.{RegionBlock}
 use Rattle.store.specs.View.{slots_of}
-use Rattle.store.proofs.SlotLaws.{slots_length}
-use Rattle.store.proofs.TableLaws.{no_block}
-use Rattle.store.proofs.MapsLaws.{row_shaped}
-use Rattle.store.proofs.CountLaws.{rows_more, rows_all, deads_le}
+use Rattle.store.proofs.CountLaws.{deads_few, rows_few}
 use Rattle.store.proofs.maps.Maps.dead.Goals as goal
 
--- a block has at most 64 dead slots
-few_dead : (c : goal.After-count-dead) → c.count-dead.result ≤ 64
-few_dead c =
+pub sum-requires-clause-fits : goal.sum-requires-clause-fits
+sum-requires-clause-fits c =
     let m = c.args.self.now in
-    let k = get_or m.table c.loop-place.place no_block in
-    let shaped = row_shaped m c.loop-place.place c.loop-place-test.true in
-    omega (arith, deads_le (slots_of k), slots_length k shaped, shaped.short, c.count-dead.ensures)
-
-pub overflow_add-dead : goal.overflow_add-dead
-overflow_add-dead c = omega (arith, few_dead c, c.loop-place.invariant.0, c.args.self.now.limits.3)
-
-pub loop-place-preserved : goal.loop-place-preserved
-loop-place-preserved c =
-    let one = rows_more deads c.args.self.now c.loop-place.place c.loop-place-test.true in
-    (omega (arith, few_dead c, c.loop-place.invariant.0), omega (arith, one, c.count-dead.ensures, c.loop-place.invariant.1))
-
-pub returns : goal.returns
-returns c = λ k. c.loop-place.invariant.1 ∙ rows_all deads c.args.self.now c.loop-place.place c.loop-place-test.false
+    let f : RegionBlock → ℕ = λ k. deads (slots_of k) in
+    let rows = take m.plan.region m.table in
+    fits_by_from_yields_list f rows c.map.result _
+    (YieldsList-from_map _ f (YieldsList-from_slice rows (cc)) c.map.ensures.closure (λ x r q k. search (rules, tests)))
+    (rows_few f m deads_few)

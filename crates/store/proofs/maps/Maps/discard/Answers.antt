@@ -13,7 +13,7 @@ use Rattle.store.proofs.maps.Maps.discard.Goals.{then-has+in-Some, then-has+in_d
 pub loop-page-init : goal.loop-page-init
 loop-page-init c = λ k.
     let m = c.args.self.now in
-    sym (dropped_none (state_of m k) c.args.block.0 (up_to c.args.pages.0 0) (orderly m) (omega (arith, (orderly m).sets_are, c.requires.0)) (up_to_none c.args.pages.0))
+    sym (dropped_none (state_of m k) c.args.block.0 (up_to c.args.pages.0 0) (orderly m) (omega (arith, (orderly m).sets_are, c.requires.a_block)) (up_to_none c.args.pages.0))
 
 pub locate-requires : goal.locate-requires
 locate-requires c =
@@ -23,7 +23,7 @@ locate-requires c =
     let p = up_to c.args.pages.0 c.loop-page.page in
     let plan : c.loop-page.self.plan ≡ s.plan = ap (λ (x : State). x.plan) e ∙ dropped_plan s d p in
     let pages : c.loop-page.self.pages ≡ s.pages = ap (λ (x : State). x.pages) e ∙ dropped_pages s d p in
-    (rw plan c.requires.0, omega (arith, c.loop-page-test.true))
+    record { a_block = rw plan c.requires.a_block; a_page = omega (arith, c.loop-page-test.true) }
 
 pub loop-page-preserved : goal.loop-page-preserved
 loop-page-preserved c = λ k.
@@ -32,7 +32,7 @@ loop-page-preserved c = λ k.
     let d = c.args.block.0 in
     let g = c.args.pages.0 in
     let i = c.loop-page.page in
-    let in_sets : d < length (state_of m₀ k).sets = omega (arith, (orderly m₀).sets_are, c.requires.0) in
+    let in_sets : d < length (state_of m₀ k).sets = omega (arith, (orderly m₀).sets_are, c.requires.a_block) in
     elim c.if-has.branch [
       | then-has+in-Some w ↦
           let one : has g i ≡ true = sym w.if-has.ensures in
@@ -54,4 +54,4 @@ returns c = λ k.
     let g = c.args.pages.0 in
     let end : m₀.pages ≡ c.loop-page.page = omega arith in
     c.loop-page.invariant k
-    ∙ dropped_as (state_of m₀ k) d (up_to g c.loop-page.page) (has g) (up_to_all g c.loop-page.page (subst (λ (n : ℕ). g < 2 ^ n) end c.requires.1))
+    ∙ dropped_as (state_of m₀ k) d (up_to g c.loop-page.page) (has g) (up_to_all g c.loop-page.page (subst (λ (n : ℕ). g < 2 ^ n) end c.requires.fits))

@@ -8,7 +8,7 @@ use Rattle.store.specs.declared.region.Region.TheVariants.{PageMapped, BlockMapp
 use Rattle.store.specs.Places.{Inside, way_of}
 use Rattle.store.specs.State.{state_of}
 use Rattle.store.specs.View.{table_of}
-use Rattle.store.proofs.MapsLaws.{row_shaped, row_length}
+use Rattle.store.proofs.MapsLaws.{row_length}
 use Rattle.store.proofs.ChangeLaws.{state_row, state_set}
 use Rattle.store.proofs.ForgetLaws.{left_is, forgotten_set, forget_set, forgotten_slot, forget_slot}
 use Rattle.store.proofs.maps.Maps.forget.Goals as goal
@@ -22,20 +22,14 @@ of_data m x b i n e h f =
     let in_data = subst (λ (y : Region). Inside y b i m.plan m.pages m.table) e h in
     omega (arith, in_data.0)
 
-pub invariant_of-self : goal.invariant_of-self
-invariant_of-self c =
+pub invariant_of-self-clause-orderly : goal.invariant_of-self-clause-orderly
+invariant_of-self-clause-orderly c =
     let m = c.args.self.now in
     let b = c.logical_block-number.result.0 in
     let i = c.args.place.2 in
     let in_data = of_data m c.args.place.0 c.args.place.1.0 i b c.in-BlockMapped.is c.requires c.logical_block-number.ensures in
     let is = left_is m b i _ c.with.result c.without.result in_data c.with.ensures c.without.ensures in
-    record {
-      sizes = (length-set m.sets b c.without.result ∙ m.sizes.0, m.sizes.1);
-      limits = m.limits;
-      small = m.small;
-      spare = m.spare;
-      whole = ∣ forgotten_set m b i c.without.result is ∣₁;
-    }
+    ∣ forgotten_set m b i c.without.result is ∣₁
 
 pub returns-in-BlockMapped : goal.returns-in-BlockMapped
 returns-in-BlockMapped c = λ k d j e.
@@ -71,22 +65,19 @@ mark-requires c =
     let m = c.args.self.now in
     let r = c.region_place-row.result in
     let at = of_region m c.args.place.0 c.args.place.1.0 c.args.place.2 r c.in-PageMapped.is c.requires c.region_place-row.ensures in
-    (row_shaped m r at.inside, omega (arith, at.slot, row_length m r at.inside))
+    omega (arith, at.slot, row_length m r c.index-table-row.result at.inside)
 
-pub invariant_of-self-in-PageMapped : goal.invariant_of-self-in-PageMapped
-invariant_of-self-in-PageMapped c =
+pub invariant_of-self-in-PageMapped-clause-orderly : goal.invariant_of-self-in-PageMapped-clause-orderly
+invariant_of-self-in-PageMapped-clause-orderly c =
     let m = c.args.self.now in
     let r = c.region_place-row.result in
     let i = c.args.place.2 in
     let b = c.mark.new.self in
     let at = of_region m c.args.place.0 c.args.place.1.0 i r c.in-PageMapped.is c.requires c.region_place-row.ensures in
-    record {
-      sizes = (m.sizes.0, length-set m.table r b ∙ m.sizes.1);
-      limits = m.limits;
-      small = m.small;
-      spare = m.spare;
-      whole = ∣ forgotten_slot m r i b at.inside at.slot c.mark.ensures.slots c.mark.ensures.shaped ∣₁;
-    }
+    ∣ forgotten_slot m r i b at.inside at.slot c.index-table-row.result c.mark.ensures ∣₁
+
+pub invariant_of-self-in-PageMapped-clause-wide_table : goal.invariant_of-self-in-PageMapped-clause-wide_table
+invariant_of-self-in-PageMapped-clause-wide_table c = length-set c.args.self.now.table c.region_place-row.result c.mark.new.self ∙ c.args.self.now.wide_table
 
 pub returns-in-PageMapped : goal.returns-in-PageMapped
 returns-in-PageMapped c = λ k d j e.
@@ -97,4 +88,4 @@ returns-in-PageMapped c = λ k d j e.
     let at = of_region m c.args.place.0 c.args.place.1.0 i r c.in-PageMapped.is c.requires c.region_place-row.ensures in
     let here : held (state_of m k) d j ≡ Some (1, m.plan.data + r, i) =
     e ∙ ap (λ (x : Region). Some (way_of x, c.args.place.1.0, i)) c.in-PageMapped.is ∙ ap (λ (n : ℕ). Some (1, n, i)) at.block in
-    state_row m.plan m.pages m.sets m.table m.reserve k r b ∙ forget_slot m r i b at.inside at.slot c.mark.ensures.slots k d j here
+    state_row m.plan m.pages m.sets m.table m.reserve k r b ∙ forget_slot m r i b at.inside at.slot c.index-table-row.result c.mark.ensures k d j here

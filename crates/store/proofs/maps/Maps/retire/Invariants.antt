@@ -1,10 +1,10 @@
--- The rows of the blocks passed are retired, and all else is as it was.
+-- The rows passed are retired, and the others are as they were.
 use Rattle.std.proofs.Common.{◌≡◌, map}
-use Rattle.flash.specs.Meaning.{Card}
 use Rattle.rules.specs.Moves.{retire, of_block}
-use Rattle.store.specs.State.{state_of}
-use Rattle.store.proofs.ChangeLaws.{turned_rows}
+use Rattle.store.specs.View.{slots_of}
+use Rattle.store.proofs.SlotLaws.{turned_below}
 use Rattle.store.proofs.maps.Maps.retire.Given as goal
 
-abbrev pub invariant-loop-place : goal.invariant-loop-place
-invariant-loop-place l = (k : Card) → state_of l.self k ≡ turned_rows (map (retire (of_block l.block.0))) l.place (state_of l.initial.self k)
+abbrev pub invariant-loop-row : goal.invariant-loop-row
+invariant-loop-row l =
+    map slots_of l.row-items ≡ turned_below (map (retire (of_block l.block.0))) l.row-index (map slots_of l.initial.row-items)

@@ -1,5 +1,5 @@
 -- The greatest count among the blocks of the region.
-use Rattle.std.proofs.Common.{◌≡◌, ℕ, ◌-◌, take, ap, ◌∙◌, arith}
+use Rattle.std.proofs.Common.{take, ap, ◌∙◌}
 use Rattle.rules.specs.Choice.{greatest}
 use Rattle.rules.specs.State.{deads}
 use Rattle.rules.proofs.ChoiceLaws.{greatest_map}
@@ -10,7 +10,5 @@ use Rattle.store.proofs.maps.Maps.victim.Goals as goal
 pub returns : goal.returns
 returns c =
     let m = c.args.self.now in
-    let n : m.plan.region - 0 ≡ m.plan.region = omega arith in
-    c.greatest.ensures
-    ∙ ap (λ (k : ℕ). greatest (λ (x : RegionBlock). deads (slots_of x)) (take k m.table)) n
+    c.greatest.ensures ∙ ap (greatest (λ (k : RegionBlock). deads (slots_of k))) c.rows.ensures
     ∙ greatest_map deads slots_of (take m.plan.region m.table)

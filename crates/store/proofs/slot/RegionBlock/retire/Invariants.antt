@@ -1,9 +1,10 @@
--- The slots below i are retired, and the others are as they were.
-use Rattle.std.proofs.Common.{◌≡◌}
+-- The slots passed are retired, and the others are as they were.
+use Rattle.std.proofs.Common.{◌≡◌, map}
 use Rattle.rules.specs.Moves.{retire, of_block}
-use Rattle.store.specs.View.{slots_of, Shaped}
+use Rattle.store.specs.View.{slot_of}
 use Rattle.store.proofs.SlotLaws.{turned_below}
 use Rattle.store.proofs.slot.RegionBlock.retire.Given as goal
 
-abbrev pub invariant-loop-i : goal.invariant-loop-i
-invariant-loop-i l = Shaped l.self × (slots_of l.self ≡ turned_below (retire (of_block l.block.0)) l.i (slots_of l.initial.self))
+abbrev pub invariant-loop-slot : goal.invariant-loop-slot
+invariant-loop-slot l =
+    map slot_of l.slot-items ≡ turned_below (retire (of_block l.block.0)) l.slot-index (map slot_of l.initial.slot-items)

@@ -1,9 +1,0 @@
-use Rattle.std.proofs.Common.{◌≡◌, ◌-◌, map}
-use Rattle.std.specs.List.{range_with_len}
-use Rattle.chips.specs.Image.{first_fault, block_fault}
-use Rattle.chips.proofs.image.ImageChip.fault.Given as goal
-
-abbrev pub invariant-loop-number : goal.invariant-loop-number
-invariant-loop-number l =
-    first_fault (map (block_fault l.geometry l.memory) (range_with_len l.number (l.geometry.blocks - l.number)))
-    ≡ first_fault (map (block_fault l.geometry l.memory) (range_with_len 0 l.geometry.blocks))
