@@ -56,6 +56,14 @@ pub record Patterning (c : Card) (b n : ℕ) (d : Card) : Type 0 where
   pub sound : Sound d
   pub floor : floor_at d b ≤ n
 
+-- what page n of the block needs on the way
+pub record NextPage (c d : Card) (b n : ℕ) : Type 0 where
+  pub shape : d.shape ≡ c.shape
+  pub sound : Sound d
+  pub inside : b < block_count d
+  pub page_inside : n < d.shape.pages
+  pub above : floor_at d b ≤ n
+
 module _ (c : Card) (b : ℕ) (s : Sound c) (h : b < block_count c) (z : floor_at c b ≡ 0) where
   pub patterning : (n : ℕ) → n ≤ c.shape.pages → Patterning c b n (patterned c b n)
   unfolding patterned
@@ -74,10 +82,10 @@ module _ (c : Card) (b : ℕ) (s : Sound c) (h : b < block_count c) (z : floor_a
       }
 
   -- the next page can be written
-  pub next_page : (d : Card) (n : ℕ) → n < c.shape.pages → d ≡ patterned c b n → (b < block_count d) × ((n < d.shape.pages) × (floor_at d b ≤ n))
+  pub next_page : (d : Card) (n : ℕ) → n < c.shape.pages → d ≡ patterned c b n → NextPage c d b n
   next_page d n l e =
       let p = patterning n (omega arith) in
-      rw e (rw p.count h, (rw p.shape l, p.floor))
+      rw e (record { shape = p.shape; sound = p.sound; inside = rw p.count h; page_inside = rw p.shape l; above = p.floor })
 
   -- one page more, on a card that has the pattern below it
   pub patterned_more :

@@ -1,5 +1,5 @@
 ghost use Rattle.std.specs.Prelude.{◌≡◌, ◌<◌, ◌≤◌, true, Ok};
-ghost use Rattle.flash.specs.Meaning.{block_count, floor_at, programmed};
+ghost use Rattle.flash.specs.Meaning.{block_count, floor_at, programmed, Sound};
 ghost use Rattle.bringup.specs.Pattern.{pattern};
 ghost use Rattle.bringup.specs.Checked.{patterned, outcome_of, checked_as, checked_below, noted_below, summary_below};
 
@@ -19,20 +19,23 @@ struct Buffers {
 
 impl Buffers {
     // Programs the pattern of a page, reads it back, and tells whether it came back as it was written. That the flash has
-    // the block is asked here and below: it relates the two, so that neither's type can say it.
+    // the block is asked here and below: it relates the two, so that neither's type can say it. The caller tells how long a
+    // page is: for each page a layer would ask the flashes below it again.
     fn check_page<F: Flash>(
         &mut self,
         flash: &mut F,
         block: PhysicalBlock,
         page: usize,
+        size: usize,
     ) -> Result<bool, Refusal>
+        requires sound { Sound (F.card flash.old) }
+        requires sized { size ≡ (F.card flash.old).shape.size }
         requires inside { block.0 < block_count (F.card flash.old) }
         requires page_inside { page < (F.card flash.old).shape.pages }
         requires above { floor_at (F.card flash.old) block.0 ≤ page }
         ensures same { result ≡ Ok true }
         ensures leaves { let c = F.card flash.old in F.card flash.new ≡ programmed c block.0 page (pattern block.0 page c.shape.size) }
     {
-        let size = flash.geometry().size;
         fill_pattern(block, page, &mut self.written[..size]);
         flash.program(block, page, &self.written[..size])?;
         flash.read(block, page, &mut self.found[..size])?;
@@ -51,9 +54,10 @@ fn pattern_block<F: Flash>(flash: &mut F, block: PhysicalBlock) -> Result<usize,
         written: [0; 4096],
         found: [0; 4096],
     };
+    let geometry = flash.geometry();
     let mut mismatched = 0;
-    for page in 0..flash.geometry().pages {
-        if !buffers.check_page(flash, block, page)? {
+    for page in 0..geometry.pages {
+        if !buffers.check_page(flash, block, page, geometry.size)? {
             // counted here, and not by a chain: the check of each page may be refused
             mismatched += 1;
         }

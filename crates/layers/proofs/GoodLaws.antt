@@ -1,13 +1,13 @@
 -- The good blocks of a flash by their numbers, and what a flash means through its good blocks.
-use Rattle.std.proofs.Common.{◌≡◌, ℕ, zero, suc, ◌+◌, ◌<◌, ◌≤◌, Bool, true, false, cond, not, ◌||◌, eqb, ltb, ◌≢◌, List, [], ◌∷◌, ◌++◌, map, length, get_or, take, set, replicate, filter, zero-add, Option, slice_get, Ok, Err, Result, MatchResult, Some, None, sym, refl, ap, ◌∙◌, subst, ⊎_elim, add-one, arith}
-use Rattle.std.specs.List.{range_with_len, enumerate_from}
-use Rattle.std.proofs.lemmas.List.FromFn.{length-range_with_len, filter_of_map_range_with_len_more, length-enumerate_from, get_or-enumerate_from, fill_by_all}
+use Rattle.std.proofs.Common.{◌≡◌, ℕ, zero, suc, ◌+◌, ◌<◌, ◌≤◌, Bool, true, false, cond, not, ◌||◌, eqb, ltb, ◌≢◌, List, [], ◌∷◌, ◌++◌, map, length, get_or, take, set, replicate, filter, sum_by, Ok, Err, Result, MatchResult, Some, None, sym, refl, ap, ◌∙◌, subst, ⊎_elim, add-one, arith}
+use Rattle.std.specs.List.{range_with_len}
+use Rattle.std.proofs.lemmas.List.FromFn.{length-range_with_len, filter_of_map_range_with_len_more, fill_by_all}
 use Rattle.std.proofs.lemmas.List.{map-id, append-nil, take_more, length-set, length-map, length_push, length-take-le, get_or-take, get_or-map, get_or_append_left, get_or_push, get_or-set_same, get_or-set_other}
 use Rattle.std.proofs.lemmas.List.Filters.{length-filter_both}
-use Rattle.std.specs.Option.{option_map, ok_or}
-use Rattle.std.proofs.lemmas.Option.{slice_get-map, slice_get-get_or, slice_get_past, cond_some}
-use Rattle.std.proofs.lemmas.Simd.{map-map}
-use Rattle.std.proofs.lemmas.Bool.{cond-true, cond-false, le-ltb, cases_lt, cases_Bool, or_right, lt-ltb, ltb-true, ltb-false}
+use Rattle.std.proofs.lemmas.List.Sums.{sum_by-cons}
+use Rattle.std.specs.Option.{ok_or}
+use Rattle.std.proofs.lemmas.Option.{cond_some}
+use Rattle.std.proofs.lemmas.Bool.{cond-true, cases_lt, cases_Bool, both_ways, or_right, lt-ltb, ltb-true, ltb-false}
 use Rattle.std.proofs.lemmas.Bool.Decides.{nat_tests}
 use Rattle.flash.specs.declared.block.PhysicalBlock.{PhysicalBlock}
 use Rattle.flash.specs.declared.geometry.Geometry.{Geometry}
@@ -57,20 +57,19 @@ filter_mapped p f (x ∷ xs) =
 abbrev pub block_of : ℕ → PhysicalBlock
 block_of b = record { 0 = b }
 
--- the block of a number found at a place of a list
-block_numbered :
-    (ns : List ℕ) (k : ℕ) (found : Option ℕ) → found ≡ slice_get ns k →
-    option_map block_of found ≡ cond (ltb k (length ns)) (Some (block_of (get_or ns k 0))) None
-block_numbered ns k found e =
-    ap (option_map block_of) e
-    ∙ ⊎_elim
-    (λ (l : k < length ns).
-    ap (option_map block_of) (slice_get-get_or ns k 0 l)
-    ∙ sym (cond-true (ltb k (length ns)) (Some (block_of (get_or ns k 0))) None (lt-ltb k (length ns) l)))
-    (λ (l : length ns ≤ k).
-    ap (option_map block_of) (slice_get_past ns k l)
-    ∙ sym (cond-false (ltb k (length ns)) (Some (block_of (get_or ns k 0))) None (le-ltb k (length ns) l)))
-    (cases_lt k (length ns))
+-- a mark that is not set counts as one block
+abbrev pub one_good : Bool → ℕ
+one_good t = cond t 0 1
+
+pub ones_good : (ts : List Bool) → sum_by one_good ts ≡ length (filter not ts)
+ones_good [] = refl
+ones_good (true ∷ ts) = omega (arith, sum_by-cons one_good true ts, ones_good ts)
+ones_good (false ∷ ts) = omega (arith, sum_by-cons one_good false ts, ones_good ts)
+
+pub few_good : (ts : List Bool) → sum_by one_good ts ≤ length ts
+few_good [] = omega arith
+few_good (true ∷ ts) = omega (arith, sum_by-cons one_good true ts, few_good ts)
+few_good (false ∷ ts) = omega (arith, sum_by-cons one_good false ts, few_good ts)
 
 module _ (ts : List Bool) where
   numbers_more : (n : ℕ) → good_numbers ts (n + 1) ≡ good_numbers ts n ++ cond (not (get_or ts n false)) (n ∷ []) []
@@ -85,19 +84,15 @@ module _ (ts : List Bool) where
   numbers_good : (n : ℕ) → get_or ts n false ≡ false → good_numbers ts (n + 1) ≡ good_numbers ts n ++ n ∷ []
   numbers_good n e = numbers_more n ∙ ap (λ (t : Bool). good_numbers ts n ++ cond (not t) (n ∷ []) []) e
 
-  -- the marks of the first n blocks, and the same with their numbers
+  pub count_bad : (n : ℕ) → get_or ts n false ≡ true → length (good_numbers ts (n + 1)) ≡ length (good_numbers ts n)
+  count_bad n e = ap length (numbers_bad n e)
+
+  pub count_good : (n : ℕ) → get_or ts n false ≡ false → length (good_numbers ts (n + 1)) ≡ length (good_numbers ts n) + 1
+  count_good n e = ap length (numbers_good n e) ∙ length_push (good_numbers ts n) n
+
+  -- the marks of the first n blocks
   front_marks : (n : ℕ) → n ≤ length ts → take n ts ≡ map (λ b. get_or ts b false) (range_with_len 0 n)
   front_marks n h = fill_by_all (λ b. get_or ts b false) (take n ts) n false (length-take-le n ts h) (λ k l. get_or-take n ts k false l)
-
-  numbered_marks : (n : ℕ) → n ≤ length ts → enumerate_from 0 (take n ts) ≡ map (λ b. (b, get_or ts b false)) (range_with_len 0 n)
-  numbered_marks n h =
-      let count = length-take-le n ts h in
-      fill_by_all (λ b. (b, get_or ts b false)) (enumerate_from 0 (take n ts)) n (0, false)
-      (length-enumerate_from 0 (take n ts) ∙ count)
-      (λ k l.
-      get_or-enumerate_from 0 (take n ts) k (0, false) (rw count l)
-      ∙ ap (λ (b : ℕ). (b, get_or (take n ts) k false)) (zero-add k)
-      ∙ ap (λ (t : Bool). (k, t)) (get_or-take n ts k false l))
 
   -- the good blocks are those whose marks are not set
   pub unmarked_count : (n : ℕ) → n ≤ length ts → length (filter not (take n ts)) ≡ length (good_numbers ts n)
@@ -105,28 +100,6 @@ module _ (ts : List Bool) where
       ap (λ (xs : List Bool). length (filter not xs)) (front_marks n h)
       ∙ ap length (filter_mapped not (λ b. get_or ts b false) (range_with_len 0 n))
       ∙ length-map (good_numbers ts n) (λ b. get_or ts b false)
-
-  pub unmarked_numbers :
-      (n : ℕ) → n ≤ length ts → map (λ p. p.0) (filter (λ p. not p.1) (enumerate_from 0 (take n ts))) ≡ good_numbers ts n
-  unmarked_numbers n h =
-      ap (λ (xs : List (ℕ × Bool)). map (λ p. p.0) (filter (λ p. not p.1) xs)) (numbered_marks n h)
-      ∙ ap (map (λ p. p.0)) (filter_mapped (λ p. not p.1) (λ b. (b, get_or ts b false)) (range_with_len 0 n))
-      ∙ map-map (λ p. p.0) (λ b. (b, get_or ts b false)) (good_numbers ts n)
-      ∙ map-id (good_numbers ts n)
-
-  -- the unmarked block that has so many unmarked ones before it
-  pub unmarked_block :
-      {B : Type 0} (mark : B → Bool) (n k : ℕ) (found : Option (ℕ × B)) → n ≤ length ts →
-      option_map (λ p. (p.0, mark p.1)) found ≡ slice_get (filter (λ p. not p.1) (enumerate_from 0 (take n ts))) k →
-      option_map (λ p. block_of p.0) found ≡ good_block ts n k
-  unmarked_block {B} mark n k found h e =
-      let first : ℕ × Bool → ℕ = λ p. p.0 in
-      let marks : List (ℕ × Bool) = filter (λ p. not p.1) (enumerate_from 0 (take n ts)) in
-      let at : (f : Option (ℕ × B)) → option_map (λ p. (p.0, mark p.1)) f ≡ slice_get marks k → option_map first (option_map (λ p. (p.0, mark p.1)) f) ≡ slice_get (good_numbers ts n) k = λ f q. ap (option_map first) q ∙ sym (slice_get-map first marks k) ∙ ap (λ (ns : List ℕ). slice_get ns k) (unmarked_numbers n h) in
-      elim found as (λ f. option_map (λ p. (p.0, mark p.1)) f ≡ slice_get marks k → option_map (λ p. block_of p.0) f ≡ good_block ts n k) [
-        | None ↦ λ q. block_numbered (good_numbers ts n) k None (at None q)
-        | Some p ↦ λ q. block_numbered (good_numbers ts n) k (Some p.0) (at (Some p) q)
-      ] e
 
   -- what holds of the numbers below n + 1, from what holds of those below n
   numbers_suc :
@@ -158,8 +131,42 @@ module _ (ts : List Bool) where
       (cases_lt k (length ns)))
       h
 
+  -- a good block has its place among the good ones
+  record Placed (j : ℕ) (ns : List ℕ) : Type 0 where
+    less : length (good_numbers ts j) < length ns
+    is : get_or ns (length (good_numbers ts j)) 0 ≡ j
+
+  placed : (n j : ℕ) → j < n → get_or ts j false ≡ false → Placed j (good_numbers ts n)
+  placed zero j h good = absurd (omega arith)
+  placed (suc n) j h good =
+      let ns : List ℕ = good_numbers ts n in
+      numbers_suc n (Placed j)
+      (λ e.
+      let ne : j ≢ n = λ (s : j ≡ n). both_ways (get_or ts j false) good (ap (λ i. get_or ts i false) s ∙ e) in
+      placed n j (omega arith) good)
+      (λ e.
+      let p = length_push ns n in
+      ⊎_elim
+      (λ (l : j < n).
+      let r = placed n j l good in
+      record { less = omega (arith, r.less); is = get_or_append_left ns (n ∷ []) 0 (length (good_numbers ts j)) r.less ∙ r.is })
+      (λ (l : n ≤ j).
+      let s : j ≡ n = omega arith in
+      rw s (record { less = omega arith; is = get_or_push ns n 0 (length ns) refl }))
+      (cases_lt j n))
+
+  -- the good block at which a search for the good block k ends
+  pub good_found :
+      (n k j : ℕ) → j < n → get_or ts j false ≡ false → length (good_numbers ts j) ≡ k → Some (record { 0 = j }) ≡ good_block ts n k
+  good_found n k j h good place =
+      let ns : List ℕ = good_numbers ts n in
+      let r = placed n j h good in
+      let less : k < length ns = omega (arith, r.less) in
+      ap (λ i. Some (record { 0 = i })) (sym r.is ∙ ap (λ i. get_or ns i 0) place)
+      ∙ sym (cond-true (ltb k (length ns)) (Some (record { 0 = get_or ns k 0 })) None (lt-ltb k (length ns) less))
+
   -- a good block, seen through the layer
-  seen_good : (c : Card) (k : ℕ) (j : PhysicalBlock) → Some j ≡ good_block ts (block_count c) k → Seen (good_card ts) c j.0 k
+  pub seen_good : (c : Card) (k : ℕ) (j : PhysicalBlock) → Some j ≡ good_block ts (block_count c) k → Seen (good_card ts) c j.0 k
   unfolding good_card
   seen_good c k j h =
       let n = block_count c in
@@ -192,7 +199,7 @@ module _ (ts : List Bool) where
   good_shape c = refl
 
   -- past the last good block there is none
-  good_missing : (c : Card) (k : ℕ) → None ≡ good_block ts (block_count c) k → block_count (good_card ts c) ≤ k
+  pub good_missing : (c : Card) (k : ℕ) → None ≡ good_block ts (block_count c) k → block_count (good_card ts c) ≤ k
   good_missing c k h =
       let ns : List ℕ = good_numbers ts (block_count c) in
       rw (good_count c) (ltb-false k (length ns) (none_when (ltb k (length ns)) (record { 0 = get_or ns k 0 }) h))

@@ -30,7 +30,7 @@ module _ (m : Maps) (c : Card) (d i : ℕ) (x : List ℕ) (can : CanStore (state
       let same : o.0 ≡ r = cc (o.1.found, found) in
       rw (← same) o.1
 
-  open_inside : r < m.plan.region
+  pub open_inside : r < m.plan.region
   open_inside = open_is.inside
 
   pub slot_room : (z : RegionBlock) → (get_or m.table r z).used < m.pages

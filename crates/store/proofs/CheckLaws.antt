@@ -108,15 +108,15 @@ module _ (o : Option State) (d g : ℕ) (bytes : List ℕ) (area : ℕ) where
       flush_number_lem = flush_rest s d g (length bytes) area pages len
 
 -- a flush of the right length passes the tests of an idle round
-pub flush_checked :
+pub checked_as_lem :
     {T : Type 0} (r : Result T StoreRefusal) (o : Option State) (s : State) (d g : ℕ) (bytes : List ℕ) (area : ℕ) → o ≡ Some s → discard_number s d g ≡ 0 →
     length bytes ≡ pages_in s.pages g * s.card.shape.size → CheckedAs r o (idle area) → CheckedAs r o (flush d g bytes area)
-flush_checked (Ok x) o s d g bytes area is pages len h =
+checked_as_lem (Ok x) o s d g bytes area is pages len h =
     let same : s ≡ h.0 = let e = h.1.in_force.is in cc in (
       h.0,
       record { in_force = h.1.in_force; passed = rw (← same) (flush_number_lem o d g bytes area s is pages len) ∙ h.1.passed },
     )
-flush_checked (Err e) o s d g bytes area is pages len h = flush_as_idle o d g bytes area s is pages len ∙ h
+checked_as_lem (Err e) o s d g bytes area is pages len h = flush_as_idle o d g bytes area s is pages len ∙ h
 
 -- a set that passes its tests has as many pages as bits
 pub pages_counted :

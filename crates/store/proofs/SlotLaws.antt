@@ -1,6 +1,6 @@
 -- What a write to the slots of a block is to the slots that the rules see, and lists of which one element more is turned at a time.
 use Rattle.std.proofs.Common.{◌≡◌, ℕ, zero, suc, ◌+◌, ◌<◌, ◌≤◌, Bool, cond, List, [], ◌∷◌, ◌++◌, map, length, get_or, take, drop, set, sym, refl, ap, ◌∙◌, arith}
-use Rattle.std.proofs.lemmas.List.{map-set, length-map, length-take-le, get_or-map, get_or_default, take-map, take_all, drop_all, append-nil}
+use Rattle.std.proofs.lemmas.List.{map-set, length-map, length-take-le, get_or-map, get_or_default, take-map}
 use Rattle.std.proofs.lemmas.List.Edits.{map_over_more}
 use Rattle.std.proofs.lemmas.Bool.{eq-eqb, ne_eqb}
 use Rattle.rules.specs.State.{live, dead}
@@ -42,14 +42,21 @@ marked_slots k i =
 abbrev pub turned_below : {X : Type 0} → (X → X) → ℕ → List X → List X
 turned_below f i xs = map f (take i xs) ++ drop i xs
 
-turned_length : {X : Type 0} (f : X → X) (i : ℕ) (xs : List X) → length (turned_below f i xs) ≡ length xs
+pub turned_length : {X : Type 0} (f : X → X) (i : ℕ) (xs : List X) → length (turned_below f i xs) ≡ length xs
 turned_length f zero xs = refl
 turned_length f (suc i) [] = refl
 turned_length f (suc i) (x ∷ xs) = ap suc (turned_length f i xs)
 
+-- the first n of those turned, if all of them are
+take_turned : {X : Type 0} (f : X → X) (n i : ℕ) (xs : List X) → n ≤ i → take n (turned_below f i xs) ≡ map f (take n xs)
+take_turned f zero i xs h = refl
+take_turned f (suc n) zero xs h = absurd (omega arith)
+take_turned f (suc n) (suc i) [] h = refl
+take_turned f (suc n) (suc i) (x ∷ xs) h = ap (λ ys. f x ∷ ys) (take_turned f n i xs (omega arith))
+
 -- the elements `is` are those of `was`, of which the first i are turned, as g sees them
 module _ {X Y : Type 0} (g : X → Y) (f : Y → Y) (i : ℕ) (was is : List X) (so_far : map g is ≡ turned_below f i (map g was)) where
-  as_many : length is ≡ length was
+  pub as_many : length is ≡ length was
   as_many = sym (length-map is g) ∙ ap length so_far ∙ turned_length f i (map g was) ∙ length-map was g
 
   -- one more is turned
@@ -63,15 +70,10 @@ module _ {X Y : Type 0} (g : X → Y) (f : Y → Y) (i : ℕ) (was is : List X) 
       ∙ ap (set (map g is) i) (e ∙ ap f (sym at))
       ∙ map_over_more f (map g was) (map g is) i v in_was so_far (get_or_default (map g is) i (g z) v in_is)
 
-  -- all are, and so are the first n
-  pub turned_all : (n : ℕ) → length was ≤ i → map g (take n is) ≡ map f (map g (take n was))
-  turned_all n h =
-      let whole : map g is ≡ map f (map g was) =
-      so_far
-      ∙ ap (λ (zs : List Y). map f zs ++ drop i (map g was)) (take_all i (map g was) (omega (arith, length-map was g)))
-      ∙ ap (λ (zs : List Y). map f (map g was) ++ zs) (drop_all i (map g was) (omega (arith, length-map was g)))
-      ∙ append-nil (map f (map g was)) in
-      sym (take-map g n is) ∙ ap (take n) whole ∙ take-map f n (map g was) ∙ ap (map f) (take-map g n was)
+  -- the first n are, once so many are passed
+  pub turned_first : (n : ℕ) → n ≤ i → map g (take n is) ≡ map f (map g (take n was))
+  turned_first n h =
+      sym (take-map g n is) ∙ ap (take n) so_far ∙ take_turned f n i (map g was) h ∙ ap (map f) (take-map g n was)
 
 -- ---- slots that die
 

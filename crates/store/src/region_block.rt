@@ -42,11 +42,17 @@ impl RegionBlock {
         self.slots[slot] = Slot::Dead;
     }
 
-    // The live slots of a logical block become dead. All slots are passed, since those past the used ones tell nothing.
+    // The live slots of a logical block become dead. The used slots are counted off, and the rest is not looked at: of a part
+    // of the slots, or of an adapter over them, that was lent as `&mut`, a proof knows no slot afterwards.
     pub(crate) fn retire(&mut self, block: LogicalBlock)
         ensures { slots_of self.new ≡ map (retire_if (of_block block.0)) (slots_of self.old) }
     {
+        let mut left = self.used;
         for slot in self.slots.iter_mut() {
+            if left == 0 {
+                break;
+            }
+            left -= 1;
             if let Slot::Live(owner, _) = *slot {
                 if owner == block {
                     *slot = Slot::Dead;

@@ -8,11 +8,16 @@ use rules::block::LogicalBlock;
 use rules::pages::PageSet;
 
 impl Maps {
-    // No slot of a data block is live any more. The blocks past the region have none.
+    // No slot of a data block is live any more. The blocks of the region are counted off, as the slots of each.
     pub(crate) fn retire(&mut self, block: LogicalBlock)
         ensures { (c : Card) → state_of self.new c ≡ retired_in (state_of self.old c) block.0 }
     {
+        let mut left = self.plan.region;
         for row in self.table.iter_mut() {
+            if left == 0 {
+                break;
+            }
+            left -= 1;
             row.retire(block);
         }
     }

@@ -6,7 +6,7 @@ use Rattle.flash.specs.Meaning.{Card}
 use Rattle.rules.specs.Sets.{pages_in}
 use Rattle.rules.proofs.SetLaws.{pages_le}
 use Rattle.store.proofs.AgreeLaws.{card_of}
-use Rattle.store.proofs.CheckLaws.{number_pos, flush_refused_pages, flush_refused_data, flush_checked, pages_counted}
+use Rattle.store.proofs.CheckLaws.{number_pos, flush_refused_pages, flush_refused_data, checked_as_lem, pages_counted}
 use Rattle.store.proofs.store.Store.check_flush.Given.{Over}
 use Rattle.store.proofs.store.Store.check_flush.Goals as goal
 use Rattle.store.proofs.store.Store.check_flush.Goals.{After-len}
@@ -44,4 +44,4 @@ pub returns : goal.returns
 returns g c =
     let a = c.in_ok-check_pages.ensures in
     let len = length_of g (goal.at.returns g c).After-len in
-    flush_checked _ _ a.0 c.args.group.now.block.0 c.args.group.now.pages.0 c.args.group.now.bytes.now c.args.area a.1.in_force.is a.1.passed (c.if-group-len.false ∙ len) c.check_idle.ensures
+    checked_as_lem _ _ a.0 c.args.group.now.block.0 c.args.group.now.pages.0 c.args.group.now.bytes.now c.args.area a.1.in_force.is a.1.passed (c.if-group-len.false ∙ len) c.check_idle.ensures
