@@ -35,6 +35,9 @@ header_good g h b e = record { floor = grind (arith, nat_tests); count = grind (
 
 -- all ghost fields of a chip
 pub record Kept (g : Geometry) (m : List ℕ) : Type 0 where
+  pub blocks_high : g.blocks ≤ 256
+  pub pages_high : g.pages ≤ 64
+  pub size_high : g.size ≤ 4096
   pub room : image_length g ≤ length m
   pub whole : is_some (image_fault g m) ≡ false
 
@@ -94,7 +97,7 @@ pub record Whole (g : Geometry) (m : List ℕ) : Type 0 where
   pub spare : (b : ℕ) → b < g.blocks → spare_in (header_at g m b) ≡ 0
 
 module _ (g : Geometry) (m : List ℕ) where
-  fault_whole : image_fault g m ≡ None → Whole g m
+  pub fault_whole : image_fault g m ≡ None → Whole g m
   unfolding image_card image_fault
   fault_whole e =
       let q = both_none (room_fault g (length m)) (map (block_fault g m) (range_with_len 0 g.blocks)) e in
@@ -138,7 +141,13 @@ module _ (g : Geometry) (m : List ℕ) where
   unfolding image_card
   chip_keeps e =
       let w = fault_whole e in
-      record { room = w.room; whole = ap is_some e }
+      record {
+        blocks_high = rw (image_count g m) at w.sound.blocks_high;
+        pages_high = w.sound.pages_high;
+        size_high = w.sound.size_high;
+        room = w.room;
+        whole = ap is_some e;
+      }
 
   -- its memory can be taken up again, and then shows the same card
   pub chip_again : (m' : List ℕ) → is_some (image_fault g m) ≡ false → m' ≡ m → ImageOf (geometry_of (image_card g m)) m' (image_card g m)

@@ -45,7 +45,7 @@ module _ (g : Geometry) (m : List ℕ) (whole : Whole g m) (b : ℕ) where
   count_small : b < g.blocks → erase_count_at (image_card g m) b + 1 < 2 ^ 20
   count_small h = omega (arith, (whole.sound.each b (rw (image_count g m) h)).erases_high, whole.sound.endurance_high)
 
-  program_small : (p n k : ℕ) → CanProgram (image_card g m) b p n → k ≡ erase_count_at (image_card g m) b → (p + 1 < 2 ^ 7) × (k < 2 ^ 20)
+  pub program_small : (p n k : ℕ) → CanProgram (image_card g m) b p n → k ≡ erase_count_at (image_card g m) b → (p + 1 < 2 ^ 7) × (k < 2 ^ 20)
   program_small p n k can e =
       (omega (arith, can.page, whole.sound.pages_high), omega (arith, count_small (image_in g m b can.block)))
 

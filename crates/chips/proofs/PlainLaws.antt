@@ -20,7 +20,7 @@ use Rattle.chips.proofs.Counting.{counting_at, counting_replicate, counting_same
 use Rattle.chips.proofs.Rows.{rows_apart, rows_order, length_put, part_at, part_outside, part_filled}
 
 module _ (g : Geometry) (m : List ℕ) (t : List Entry) where
-  plain_count : block_count (plain_card g m t) ≡ g.blocks
+  pub plain_count : block_count (plain_card g m t) ≡ g.blocks
   unfolding plain_card
   plain_count = laid_count g (plain_block g m t)
 
@@ -36,7 +36,7 @@ module _ (g : Geometry) (m : List ℕ) (t : List Entry) where
   unfolding plain_card
   plain_absent b h = laid_absent g (plain_block g m t) b h
 
-  plain_page : (b p : ℕ) → b < g.blocks → p < g.pages → page_at (plain_card g m t) b p ≡ row g.size (b * g.pages + p) m
+  pub plain_page : (b p : ℕ) → b < g.blocks → p < g.pages → page_at (plain_card g m t) b p ≡ row g.size (b * g.pages + p) m
   plain_page b p h k =
       ap (λ (y : Block). get_or y.pages p []) (plain_here b h)
       ∙ counting_at (λ q. row g.size (b * g.pages + q) m) g.pages p [] k
@@ -94,7 +94,7 @@ module _ (g : Geometry) (m : List ℕ) (t : List Entry) (room : plain_length g �
       (ap (λ (y : Entry). y.floor) old) (ap (λ (y : Entry). y.erases) old))
 
   -- a page put into the memory, and the floor raised above it
-  plain_programmed :
+  pub plain_programmed :
       (p n : ℕ) (x : List ℕ) → p < g.pages → length x ≡ g.size → n ≡ erase_count_at (plain_card g m t) b →
       plain_card g (put_mid ((b * g.pages + p) * g.size) g.size m x) (set t b (record { floor = p + 1; erases = n }))
       ≡ programmed (plain_card g m t) b p x
@@ -111,7 +111,7 @@ module _ (g : Geometry) (m : List ℕ) (t : List Entry) (room : plain_length g �
       ∙ ap (with_block (plain_card g m t) b) (same_block _ _ _ _ _ _ (ap (λ (y : Block). set y.pages p x) (sym old)) refl count)
 
   -- the bytes of a block set to 255, its floor to 0, and the erase counted
-  plain_erased :
+  pub plain_erased :
       (n : ℕ) → n ≡ erase_count_at (plain_card g m t) b →
       plain_card g (put_mid (b * (g.pages * g.size)) (g.pages * g.size) m (replicate (g.pages * g.size) 255)) (set t b (record { floor = 0; erases = n + 1 }))
       ≡ erased (plain_card g m t) b
@@ -143,7 +143,7 @@ module _ (g : Geometry) (m : List ℕ) (t : List Entry) (b : ℕ) where
   pub plain_can_erase : (k : ℕ) → k ≡ erase_count_at (plain_card g m t) b → None ≡ why_not_erase g k b → CanErase (plain_card g m t) b
   plain_can_erase = can_erase_as (plain_card g m t) g (plain_geometry g m t) b
 
-  plain_in : b < block_count (plain_card g m t) → b < g.blocks
+  pub plain_in : b < block_count (plain_card g m t) → b < g.blocks
   plain_in h = rw (plain_count g m t) at h
 
   pub plain_put_end : (p n a : ℕ) → plain_length g ≤ length m → CanProgram (plain_card g m t) b p n → a ≡ page_place 0 g b p → a + n ≤ length m
@@ -202,11 +202,11 @@ pub plain_none : (g : Geometry) (m : List ℕ) (t : List Entry) → g ≡ record
 plain_none g m t none = plain_of g m t no_card (rw none (omega arith)) (rw none (no_blocks m t)) no_card_sound
 
 -- what it takes to make a chip
-plain_fits : (g : Geometry) (n : ℕ) → plain_fault g n ≡ None → Limited g × (plain_length g ≤ n)
+pub plain_fits : (g : Geometry) (n : ℕ) → plain_fault g n ≡ None → Limited g × (plain_length g ≤ n)
 plain_fits g n e = (limited g (grind (arith, nat_tests)), grind (arith, nat_tests))
 
 -- memory filled with 255 and an unused table are a blank chip
-plain_blank :
+pub plain_blank :
     (g : Geometry) (m : List ℕ) → plain_length g ≤ length m → g.blocks ≤ 256 →
     plain_card g (put_mid 0 (plain_length g) m (replicate (plain_length g) 255)) (replicate 256 unused) ≡ blank_card g
 unfolding plain_card

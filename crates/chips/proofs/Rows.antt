@@ -25,7 +25,7 @@ length_put m ys a l h e = grind (arith, overwrites)
 
 -- a memory in which l bytes from a on were written
 module _ (m ys : List ℕ) (a l : ℕ) (fits : a + l ≤ length m) (len : length ys ≡ l) where
-  part_before : (o s : ℕ) → o + s ≤ a → take s (drop o (put_mid a l m ys)) ≡ take s (drop o m)
+  pub part_before : (o s : ℕ) → o + s ≤ a → take s (drop o (put_mid a l m ys)) ≡ take s (drop o m)
   part_before o s h =
       sym (drop-take o s (put_mid a l m ys))
       ∙ ap (drop o) (take-put_mid_below a l m ys (o + s) h (omega arith))
@@ -39,7 +39,7 @@ module _ (m ys : List ℕ) (a l : ℕ) (fits : a + l ≤ length m) (len : length
       let n : a + l - a ≡ l = omega arith in
       ap (λ k. take k (drop a (put_mid a l m ys))) (sym n) ∙ between-put_mid a l m ys (a + l) (omega arith) (len ∙ sym n)
 
-  part_within : (o s : ℕ) → a ≤ o → o + s ≤ a + l → take s (drop o (put_mid a l m ys)) ≡ take s (drop (o - a) ys)
+  pub part_within : (o s : ℕ) → a ≤ o → o + s ≤ a + l → take s (drop o (put_mid a l m ys)) ≡ take s (drop (o - a) ys)
   part_within o s h k =
       let e : a + (o - a) ≡ o = omega arith in
       let d : drop o (put_mid a l m ys) ≡ drop (o - a) (drop a (put_mid a l m ys)) = sym (drop-drop (o - a) a (put_mid a l m ys) ∙ ap (λ j. drop j (put_mid a l m ys)) e) in

@@ -16,7 +16,7 @@ use Rattle.rules.proofs.OpenBlock.{OpenIn, open_some}
 use Rattle.rules.proofs.Space.{capacity_same}
 use Rattle.rules.proofs.Appending.{page_of, appended_rule}
 use Rattle.rules.proofs.ReadyCards.{Sized}
-use Rattle.rules.proofs.ReadyFirm.{Firm, firm_stored}
+use Rattle.rules.proofs.ReadyFirm.{Firm, firm_dropped, firm_stored}
 use Rattle.rules.proofs.ReadyOnce.{Once, places_dropped, places_stored, one_at_other, once_stored}
 use Rattle.rules.proofs.ReadyMoves.{ready_good, ready_firm, ready_once, ready_dropped, firm_ready}
 
@@ -143,6 +143,13 @@ free_dropped s d picks r =
 
 module _ (s : State) (d g : ℕ) (bytes : List ℕ) (r : Ready s) (hd : d < s.plan.data)
     (len : length bytes ≡ pages_in s.pages g * s.card.shape.size) (room : pages_in s.pages g ≤ free_of s) where
+  pub appends_dropped :
+      (n : ℕ) → n ≤ s.pages →
+      Appends (dropped s d (has g)) g n (appended (dropped s d (has g)) d (row_of s.card.shape.size g bytes) n)
+  unfolding dropped
+  appends_dropped n h =
+      appends (dropped s d (has g)) d g bytes hd len (omega (arith, free_dropped s d (has g) r)) (firm_dropped s d (has g) (ready_firm s r)) n h
+
   pub ready_appended : (n : ℕ) → n ≤ s.pages → Ready (appended (dropped s d (has g)) d (row_of s.card.shape.size g bytes) n)
   unfolding dropped
   ready_appended n h =

@@ -1,12 +1,13 @@
 -- An accepted format leaves a ready state, and every call leaves one of a ready state: so does every run.
-use Rattle.std.proofs.Common.{◌≡◌, ℕ, zero, suc, ◌+◌, ◌*◌, ◌<◌, ◌≤◌, Bool, true, false, cond, ltb, leb, List, [], length, get_or, replicate, count_by, sym, refl, ap, ◌∙◌, subst, arith}
+use Rattle.std.proofs.Common.{◌≡◌, ℕ, zero, suc, ◌+◌, ◌*◌, ◌<◌, ◌≤◌, Bool, true, false, cond, ltb, leb, List, [], length, get_or, replicate, None, count_by, sym, refl, ap, ◌∙◌, subst, arith}
 use Rattle.std.proofs.lemmas.List.{get_or-replicate}
 use Rattle.flash.specs.Meaning.{Card, Shape, block_count, floor_at, erase_count_at, Sound}
+use Rattle.flash.specs.Refusals.{erase_refusal}
 use Rattle.rules.specs.declared.plan.Plan.{Plan}
 use Rattle.rules.specs.Sets.{has, pages_in}
 use Rattle.rules.specs.State.{Slot, State, is_at, free_of, places}
 use Rattle.rules.specs.Moves.{dropped, appended, rewritten, at_rest}
-use Rattle.rules.specs.Calls.{Call, flush, read, discard, idle, Answer, row_of, near_worn, watched, format_number, to_region, flushed_as, flushed, Few, rested_as, rested, unless, step, formatted}
+use Rattle.rules.specs.Calls.{Call, flush, read, discard, idle, Answer, row_of, near_worn, watched, format_number, to_region, flushed_as, flushed, Few, rested_as, rested, unless, step, cleared_below, formatted}
 use Rattle.rules.specs.Runs.{Log, Ran, still, after}
 use Rattle.rules.specs.Ready.{Ready}
 use Rattle.rules.proofs.SetLaws.{pages_le}
@@ -14,7 +15,7 @@ use Rattle.rules.proofs.Sums.{sum_replicate_zero}
 use Rattle.rules.proofs.Accepted.{CanFlush, can_flush, can_idle, CanFormat, can_format}
 use Rattle.rules.proofs.Formatted.{good_formatted}
 use Rattle.rules.proofs.Steps.{number_for, meant_by, step_is}
-use Rattle.rules.proofs.ReadyErases.{far_from_worn, sound_below, blank_below}
+use Rattle.rules.proofs.ReadyErases.{far_from_worn, clear_lasts, sound_below, blank_below}
 use Rattle.rules.proofs.ReadyFirm.{Firm}
 use Rattle.rules.proofs.ReadyOnce.{Once, one_in_le}
 use Rattle.rules.proofs.ReadyMoves.{ready_good, ready_rewritten, ready_dropped, firm_ready}
@@ -47,6 +48,13 @@ module _ (p : Plan) (c : Card) (can : CanFormat p c) where
   unfolding formatted places
   once_formatted d i =
       omega (arith, one_in_le (replicate p.data 0) d i, sum_replicate_zero (count_by (is_at d i)) [] refl p.region)
+
+-- each block of the plan is cleared in turn, and its erase is accepted
+pub format_erases :
+    (p : Plan) (c : Card) → format_number p c ≡ 0 → (n : ℕ) → n < p.data + p.region → erase_refusal (cleared_below n c) n ≡ None
+format_erases p c e n h =
+    let can = can_format p c e in
+    clear_lasts n c (omega (arith, can.inside)) (format_lasts p c can n h)
 
 pub ready_formatted : (p : Plan) (c : Card) → Sound c → format_number p c ≡ 0 → Ready (formatted p c)
 ready_formatted p c s e =

@@ -1,8 +1,9 @@
 -- Programs into one block: the copies of a compaction and the pages of a data block written anew are all accepted, and leave a sound card.
 use Rattle.std.proofs.Common.{◌≡◌, ℕ, zero, suc, ◌+◌, ◌<◌, ◌≤◌, ◌≢◌, List, [], ◌∷◌, length, Some, None, Option, refl, ap, ◌∙◌, arith}
 use Rattle.flash.specs.Meaning.{Card, Shape, block_at, block_count, page_at, floor_at, erase_count_at, programmed, Sound}
+use Rattle.flash.specs.Refusals.{read_refusal, program_refusal}
 use Rattle.flash.proofs.CardLaws.{programmed_shape, programmed_count, programmed_elsewhere, programmed_floor, programmed_erases}
-use Rattle.flash.proofs.RefusalLaws.{CanProgram}
+use Rattle.flash.proofs.RefusalLaws.{CanProgram, read_accepted, program_accepted}
 use Rattle.flash.proofs.SoundLaws.{programmed_sound}
 use Rattle.rules.specs.State.{Slot, live, dead}
 use Rattle.rules.specs.Moves.{Row, kept, copied, put, filled}
@@ -78,6 +79,20 @@ module _ (c₀ : Card) (from to : ℕ) (c : Card) (s t : ℕ) (h : Copying c₀ 
   copy_can : (n : ℕ) → s < c₀.shape.pages → n ≡ c₀.shape.size → CanProgram c to t n
   copy_can n hs e = can_write c₀ to c h.written t n h.to_in (omega (arith, h.few)) e (omega (arith, h.floor))
 
+  -- the page may be read, and the next page of the blank block programmed
+  pub copying_reads : (n : ℕ) → s < c₀.shape.pages → n ≡ c₀.shape.size → read_refusal c from s n ≡ None
+  copying_reads n hs e =
+      let w = h.written in
+      read_accepted c from s n
+      (record {
+        block = omega (arith, w.blocks_same, h.from_in);
+        page = omega (arith, pages_same c₀ to c w);
+        bytes = omega (arith, size_same c₀ to c w);
+      })
+
+  pub copying_programs : (n : ℕ) → s < c₀.shape.pages → n ≡ c₀.shape.size → program_refusal c to t n ≡ None
+  copying_programs n hs e = program_accepted c to t n (copy_can n hs e)
+
   pub copying_at : (s' t' : ℕ) → s ≡ s' → t ≡ t' → Copying c₀ from to c s' t'
   copying_at s' t' e f =
       record {
@@ -137,6 +152,9 @@ pub filling_none : (c : Card) (b : ℕ) → Sound c → b < block_count c → fl
 filling_none c b s h z = record { written = written_none c b s; inside = h; floor = omega arith }
 
 module _ (c₀ : Card) (b : ℕ) (c : Card) (n : ℕ) (h : Filling c₀ b c n) where
+  pub filling_programs : (m : ℕ) → n < c₀.shape.pages → m ≡ c₀.shape.size → program_refusal c b n m ≡ None
+  filling_programs m hn e = program_accepted c b n m (can_write c₀ b c h.written n m h.inside hn e h.floor)
+
   -- a page that the row lacks is passed over, and one that it has is programmed
   pub filling_skip : Filling c₀ b c (n + 1)
   filling_skip = record { written = h.written; inside = h.inside; floor = omega (arith, h.floor) }

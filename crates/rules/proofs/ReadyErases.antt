@@ -1,10 +1,11 @@
 -- Erases: a block that is not near its endurance may be erased, a card stays sound, and a block that is cleared is blank.
-use Rattle.std.proofs.Common.{◌≡◌, ℕ, zero, suc, ◌+◌, ◌<◌, ◌≤◌, Bool, true, false, cond, ltb, sym, refl, ap, ◌∙◌, inl, inr, add-one, arith}
+use Rattle.std.proofs.Common.{◌≡◌, ℕ, zero, suc, ◌+◌, ◌<◌, ◌≤◌, Bool, true, false, cond, ltb, None, sym, refl, ap, ◌∙◌, inl, inr, add-one, arith}
 use Rattle.std.proofs.lemmas.Bool.{cases_eq, ltb-false}
 use Rattle.std.proofs.lemmas.Bool.Decides.{nat_tests}
 use Rattle.flash.specs.Meaning.{Card, Shape, Block, block_count, floor_at, erase_count_at, erased, Sound}
+use Rattle.flash.specs.Refusals.{erase_refusal}
 use Rattle.flash.proofs.CardLaws.{erased_floor}
-use Rattle.flash.proofs.RefusalLaws.{CanErase}
+use Rattle.flash.proofs.RefusalLaws.{CanErase, erase_accepted}
 use Rattle.flash.proofs.SoundLaws.{erased_sound}
 use Rattle.rules.specs.Moves.{cleared, clearing}
 use Rattle.rules.specs.Calls.{near_worn, cleared_below, clearing_below}
@@ -26,6 +27,10 @@ far_from_worn (suc n) c e b h =
           let rest : near_worn n c ≡ false = grind (arith, nat_tests) in
           far_from_worn n c rest b (omega arith)
     ]
+
+-- a block below its endurance may be erased
+pub erase_lasts : (c : Card) (b : ℕ) → b < block_count c → erase_count_at c b < c.shape.endurance → erase_refusal c b ≡ None
+erase_lasts c b h l = erase_accepted c b (record { block = h; below = l })
 
 -- ---- one block cleared
 
@@ -70,6 +75,10 @@ can_clear n c h l =
     let a = alike_cleared_below n c (omega arith) in
     let e : (cleared_below n c).shape.endurance ≡ c.shape.endurance = ap (λ (x : Shape). x.endurance) a.shape_same in
     record { block = omega (arith, a.blocks_same); below = omega (arith, erases_below n c) }
+
+pub clear_lasts :
+    (n : ℕ) (c : Card) → n < block_count c → erase_count_at c n < c.shape.endurance → erase_refusal (cleared_below n c) n ≡ None
+clear_lasts n c h l = erase_accepted (cleared_below n c) n (can_clear n c h l)
 
 pub sound_below :
     (n : ℕ) (c : Card) → Sound c → n ≤ block_count c → ((b : ℕ) → b < n → erase_count_at c b < c.shape.endurance) →

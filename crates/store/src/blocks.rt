@@ -1,5 +1,5 @@
-// The one place where block numbers of one kind become numbers of another kind, by functions with names: a `From`
-// could be called anywhere by `into`.
+// The one place where block numbers of one kind become numbers of another kind, which is a rule of the project; by
+// functions with names, since a `From` could be called anywhere by `into`.
 // The data blocks are the flash blocks 0 and up, the blocks of the page-mapped region the flash blocks after those.
 ghost use Rattle.std.specs.Prelude.{◌≡◌, ◌+◌, ◌-◌, ◌<◌, ◌≤◌};
 

@@ -10,7 +10,8 @@ pub(crate) enum Slot {
     Dead,
 }
 
-// A block of the page-mapped region: its first `used` slots are programmed.
+// A block of the page-mapped region: its first `used` slots are programmed. A rule of the project: the page map is a table
+// of such records, of which one is lent to a method that marks or appends.
 // No `ArrayVec`: the table is an array of records that are copied whole, and an `ArrayVec` is not `Copy`.
 #[derive(Clone, Copy)]
 pub(crate) struct RegionBlock {

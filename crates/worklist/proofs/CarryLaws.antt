@@ -27,7 +27,7 @@ use Rattle.worklist.specs.Runs.{area_then, block_bytes}
 -- ---- pages of a set
 
 -- no set of 64 bits has more than 64 pages
-pages_few : (n g : ℕ) → g < 2 ^ 64 → pages_in n g ≤ 64
+pub pages_few : (n g : ℕ) → g < 2 ^ 64 → pages_in n g ≤ 64
 pages_few n g h =
     ⊎_elim
     (λ (t : leb n 64 ≡ true). let l = leb-true n 64 t in omega (arith, pages_le n g))
@@ -76,7 +76,7 @@ module _ (st : State) (d g : ℕ) (bytes : List ℕ) (area : ℕ) (r : Report) (
       (ap (λ k. cond (eqb k 2) 1 0) (sym w), ap (λ k. cond (eqb k 2) 0 (pages_in 64 g)) (sym w) ∙ all)
 
   -- the way that an accepted group went tells whether it is a large one
-  group_counted : answer_in (Some st) group ≡ done r → group_counts r.way g ≡ (large_by (Some st) group (done r), small_by (Some st) group (done r))
+  pub group_counted : answer_in (Some st) group ≡ done r → group_counts r.way g ≡ (large_by (Some st) group (done r), small_by (Some st) group (done r))
   unfolding flushed
   group_counted e = go (flush_number st d g (length bytes) area) refl (ap (λ (x : Answer × State). x.0) (sym (step_is st group)) ∙ e)
     where
@@ -91,7 +91,7 @@ module _ (st : State) (d g : ℕ) (bytes : List ℕ) (area : ℕ) (r : Report) (
 -- ---- an idle round
 
 -- it makes at most one round
-abbrev Brief : Answer → Type 0
+abbrev pub Brief : Answer → Type 0
 Brief (refused k) = Unit {0}
 Brief (done x) = (x.erases ≤ 1) × (x.compactions ≤ 1) × (x.merges ≤ 1)
 
@@ -108,7 +108,7 @@ module _ (st : State) (area : ℕ) (r : Report) where
       go true = rounds (ltb 0 (dead_of st))
       go false = (omega arith, omega arith, omega arith)
 
-  idle_brief : answer_in (Some st) (idle area) ≡ done r → Brief (done r)
+  pub idle_brief : answer_in (Some st) (idle area) ≡ done r → Brief (done r)
   idle_brief e = go (idle_number st area) (ap (λ (x : Answer × State). x.0) (sym (step_is st (idle area))) ∙ e)
     where
       go : (k : ℕ) → (unless k st (rested st)).0 ≡ done r → Brief (done r)

@@ -1,6 +1,6 @@
 -- What stands at the front of some bytes, from the parts that are split off.
-use Rattle.std.proofs.Common.{◌≡◌, ℕ, ◌+◌, ◌-◌, ◌*◌, ◌<◌, ◌≤◌, leb, List, length, take, drop, None, Ok, Err, Result, Bor, sym, refl, ap, ◌∙◌, arith, length-drop}
-use Rattle.std.proofs.lemmas.List.{get_or-take, drop-drop, take_rest}
+use Rattle.std.proofs.Common.{◌≡◌, ℕ, ◌+◌, ◌-◌, ◌*◌, ◌/◌, ◌%◌, ◌<◌, ◌≤◌, leb, List, length, get_or, take, drop, None, Ok, Err, Result, Bor, sym, refl, ap, ◌∙◌, arith, add-zero, length-drop}
+use Rattle.std.proofs.lemmas.List.{get_or-take, get_or-drop, drop-drop, take_rest}
 use Rattle.std.proofs.lemmas.Bool.{le-leb, lt-leb, cond-true, cond-false}
 use Rattle.rules.specs.Sets.{pages_in}
 use Rattle.worklist.specs.declared.fault.ListFault.{ListFault}
@@ -9,7 +9,38 @@ use Rattle.worklist.specs.declared.head.Head.{Head}
 use Rattle.worklist.specs.declared.kind.Kind.{Kind}
 use Rattle.worklist.specs.declared.kind.Kind.TheVariants.{Flush, Discard}
 use Rattle.worklist.specs.declared.record.Record.{Record}
-use Rattle.worklist.specs.Records.{flush_of, discard_of, head_in, head_of, set_in, data_length, Found, body_of, after_head, read_one, found_from, stopped, next_as, next_at}
+use Rattle.worklist.specs.Numbers.{kind_for}
+use Rattle.worklist.specs.Records.{flush_of, discard_of, word_in, head_from, head_in, head_of, set_in, data_length, Found, body_of, after_head, read_one, found_from, stopped, next_as, next_at}
+
+-- ---- a head and a record at a place of a list
+
+module _ (xs : List ℕ) (at : ℕ) where
+  left_of : length (drop at xs) ≡ length xs - at
+  left_of = length-drop at xs
+
+  word_at : word_in (drop at xs) ≡ get_or xs at 0 * 256 + get_or xs (at + 1) 0
+  word_at = simp (get_or-drop, add-zero)
+
+  -- the head from its two bytes
+  pub head_as :
+      (w : ℕ) (k : Result Kind ListFault) (r : Result Head ListFault) → 2 ≤ length xs - at → w ≡ get_or xs at 0 * 256 + get_or xs (at + 1) 0 →
+      k ≡ kind_for (w / 8192) → r ≡ head_from k (w / 64 % 128) (w % 64) → r ≡ head_of (drop at xs)
+  unfolding head_of
+  head_as w k r h e q t =
+      let v : w ≡ word_in (drop at xs) = e ∙ sym word_at in
+      t ∙ ap (λ (o : Result Kind ListFault). head_from o (w / 64 % 128) (w % 64)) q ∙
+      ap (λ (n : ℕ). head_from (kind_for (n / 8192)) (n / 64 % 128) (n % 64)) v ∙
+      sym (cond-true (leb 2 (length (drop at xs))) _ _ (le-leb 2 (length (drop at xs)) (omega (arith, left_of))))
+
+  -- a record after its head
+  pub after_head_lem :
+      (size : ℕ) (h : Head) (k : Kind) → Ok h ≡ head_of (drop at xs) → h.kind ≡ k →
+      body_of k h.block h.page size at (drop at xs) ≡ read_one size at (drop at xs)
+  after_head_lem size h k e q =
+      ap (λ (j : Kind). body_of j h.block h.page size at (drop at xs)) (sym q) ∙
+      ap (λ (r : Result Head ListFault). after_head r size at (drop at xs)) e
+
+-- ---- the front of some bytes
 
 module _ (xs : List ℕ) (size : ℕ) where
   -- what is told of a fault

@@ -3,7 +3,7 @@ ghost use Rattle.std.specs.Prelude.{◌≡◌, ℕ, ◌+◌, ◌≤◌, List, le
 ghost use Rattle.rules.specs.Calls.{flush as flush_call, read as read_call, discard as discard_call, idle as idle_call};
 ghost use Rattle.rules.specs.Runs.{erases_told};
 ghost use Rattle.store.specs.Calls.{state_in, answer_in};
-ghost use Rattle.worklist.specs.Answers.{answer_of, answered};
+ghost use Rattle.worklist.specs.Answers.{answer_of, answered, fields_for, Packs};
 ghost use Rattle.worklist.specs.Carry.{counts_of, Told};
 ghost use Rattle.worklist.specs.Numbers.{kind_number};
 ghost use Rattle.worklist.specs.Records.{item_of};
@@ -21,12 +21,13 @@ use store::region::Region;
 use store::report::Report;
 use store::store::Store;
 
-// Writes the fields of the answer to a record, and counts what the record took. Groups are counted by the flush, which
-// alone has any.
+// Writes the fields of the answer to a record, which have room in four bytes and so are read back as they were, and
+// counts what the record took. Groups are counted by the flush, which alone has any.
 fn tell(answer: Answer, fields: &mut [u8; 4]) -> Step
     ensures counts { let a = answer_of answer.outcome in
         result ≡ record { written = 4; erases = erases_told a; large = 0; small = 0 } }
     ensures wrote { fields.new ≡ answered (kind_number answer.kind) (answer_of answer.outcome) }
+    ensures packs { Packs (fields_for (kind_number answer.kind) (answer_of answer.outcome)) }
 {
     *fields = <[u8; 4]>::from(answer);
     let erases = answer.outcome.map_or(0, |report| report.erases);
@@ -74,7 +75,7 @@ fn carry_flush<F: Flash>(
     }
 }
 
-// Reads a page, right into the bytes of the answers that follow the fields.
+// Reads a page, right into the bytes of the answers that follow the fields, which is a rule of the project.
 fn carry_read<F: Flash>(
     store: &Store<F>,
     block: LogicalBlock,

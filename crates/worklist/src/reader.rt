@@ -92,8 +92,8 @@ impl<'a> Reader<'a> {
         self.fault
     }
 
-    // The next record. A fault is remembered, and no part of the result: a run takes each record by `let .. else`, and
-    // otherwise ends with the fault and the place that the reader tells.
+    // The next record. A fault is remembered, and no part of the result. A rule of the project: a run takes each record by
+    // `let .. else`, and otherwise ends with the fault and the place that the reader tells.
     pub fn next(&mut self) -> Option<Taken<'a>>
         ensures is { next_by result self.new.fault ≡ next_at self.old.list.now self.old.place self.old.size }
         ensures on { self.new.place ≡ place_after result self.old.place }

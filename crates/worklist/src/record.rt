@@ -1,7 +1,7 @@
 use rules::block::LogicalBlock;
 use rules::pages::PageSet;
 
-// A record of a work list. A flush shows its data as a part of the list.
+// A record of a work list. A flush shows its data as a part of the list, which is a rule of the project.
 #[derive(Clone, Copy)]
 pub enum Record<'a> {
     Flush {
